@@ -1,4 +1,4 @@
-"""How scripts/speed, scripts/look_speed and scripts/tcp_speed print what they measure and, run with --page, put it into
+"""How scripts/speed, look_speed, tcp_speed and held_up print what they measure and, run with --page, put it into
 docs/MEASUREMENTS.md too. Each has a section there, from `<!-- scripts/NAME -->` to `<!-- end -->`, and replaces it as a
 whole: with the date, the program and its commit, the machine, and the tables.
 """

@@ -44,8 +44,9 @@ def program(checkout):
 def test_the_check_adds_both_counts_and_stamps_the_program(place):
     checkout = checkout_of(place)
     lines = checked(checkout, "45 passed, 0 failed", 0)
-    wanted = ["== limits", "rt: this is told on standard error", "rt ci: 40 passed, 0 failed"]
-    same("the lines", lines[:-1], wanted + [f"tries {program(checkout)}", "end to end: 5 passed, 0 failed"])
+    gate = ["== limits", "rt: this is told on standard error", "rt ci: 40 passed, 0 failed", "check: rt ci took 0 minutes"]
+    tests = [f"tries {program(checkout)}", "end to end: 5 passed, 0 failed", "check: end to end took 0 minutes"]
+    same("the lines", [re.sub(r" on [1-9]\d* processors$", "", it) for it in lines[:-1]], gate + tests)
     same("calls of rt", [it for _, it in checkout.calls()], ["ci"])
     ran = checkout.run(["once"], b"input")
     same("./nfsd after it", (ran.output, ran.errors, ran.status), (b"[once]\ninput", b"", 3))

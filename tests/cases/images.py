@@ -167,7 +167,10 @@ class Image:
             number = next(free)
             taken.append(number)
             self.pointers.append(number)
-            self.content[number] = struct.pack("<1024I", *(found.get(it, 0) for it in range(INDIRECT)))
+            found_at = [0] * INDIRECT
+            for place, it in found.items():
+                found_at[place] = it
+            self.content[number] = struct.pack("<1024I", *found_at)
             return number
 
         direct = [numbers.get(it, 0) for it in range(DIRECT)]

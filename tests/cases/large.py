@@ -140,3 +140,25 @@ def test_a_directory_of_10000_names(place):
         same(f"{name}: where it is listed", (found.name, found.cookie), (name, cookie))
     server.kill()
     looking.assert_good(place, path, "behind a kill")
+
+
+def test_a_rename_into_a_directory_2000_deep(place):
+    bottom = below = images.directory({})
+    for _ in range(2000):
+        below = images.directory({b"d": below})
+    root = images.directory({b"moved": images.directory({}), b"d": below})
+    path = images.Image(root, 8192, 2112).write(place.path("image"))
+    server = Server(place, path, connections=1)
+    client = server.client()
+    moved = client.find(ROOT, b"moved")
+    client.do(nfs.RENAME, ROOT, b"moved", bottom.handle(), b"name")
+    same("what the name leads to", client.find(bottom.handle(), b"name"), moved)
+    same("its parent", client.find(moved, b".."), bottom.handle())
+    # No directory comes to lie below itself (RFC 1813, section 3.3.14).
+    client.refuse(nfs.INVAL, nfs.RENAME, ROOT, b"d", moved, b"d")
+    client.do(nfs.RENAME, bottom.handle(), b"name", ROOT, b"moved")
+    same("its parent, back", client.find(moved, b".."), ROOT)
+    client.close()
+    server.end()
+    # A block for each directory that has had a name: all 2,001 below the root, and the root.
+    expect("check", looking.check(place, path), 0, looking.clean(2003, 2002), b"")

@@ -2,11 +2,13 @@
 //! bytes in pieces.
 
 mod block;
+mod cow_block;
 mod pieces;
 mod shared_block;
 mod shared_octets;
 
 pub use block::Block;
+pub use cow_block::CowBlock;
 pub use pieces::Pieces;
 pub use shared_block::SharedBlock;
 pub use shared_octets::SharedOctets;

@@ -4,7 +4,7 @@
 
 mod buffers;
 
-pub use buffers::{Block, Pieces, SharedBlock, SharedOctets};
+pub use buffers::{Block, CowBlock, Pieces, SharedBlock, SharedOctets};
 
 /// The bytes of a block.
 pub const BLOCK_BYTES: usize = 4096;
@@ -130,9 +130,9 @@ pub const LISTING_PREFERRED: u32 = 8192;
 /// The bytes that a listing takes before its first entry.
 pub const LISTING_FRAME: u32 = 104;
 /// The bytes that an entry of READDIR takes, but for its name.
-pub const ENTRY_BYTES: u32 = 24;
+pub const LISTED_ITEM_BYTES: u32 = 24;
 /// The bytes that an entry of READDIRPLUS takes, but for its name.
-pub const ENTRY_PLUS_BYTES: u32 = 140;
+pub const LISTED_ITEM_PLUS_BYTES: u32 = 140;
 /// The step in which the server tells the time of day, in nanoseconds.
 pub const CLOCK_STEP: u32 = 1;
 
@@ -149,9 +149,9 @@ pub const PIECE_BYTES: usize = 4096;
 pub const CHANGED_BLOCKS: usize = 128;
 /// The most commits that an open store keeps in memory once it has settled: where there are more, what is
 /// logged is brought home.
-pub const MOST_KEPT_COMMITS: usize = 64;
+pub const MOST_UNINSTALLED_COMMITS: usize = 64;
 /// How many clean blocks stay in memory that no call needs, those used last.
-pub const CLEAN_BLOCKS: usize = 1_280;
+pub const CLEAN_BLOCKS: usize = 16_384;
 
 // The sizes of `serve`.
 
@@ -169,6 +169,8 @@ pub const MOST_JOB_THREADS: usize = 4;
 pub const STREAM_PIECE_BYTES: usize = 65_536;
 /// The most calls of a connection that are driven in one batch, while the others wait for theirs.
 pub const BATCH_CALLS: usize = 8;
+/// The most steps of a call that are made in a row, before others come to theirs.
+pub const STEPS_IN_A_ROW: usize = 64;
 /// Replies of a piece are written once there are so many bytes of them.
 pub const REPLY_BATCH_BYTES: usize = 65_536;
 /// Where more bytes of replies wait to be written, the connection isn't read.
@@ -181,8 +183,8 @@ pub const IDLE_SECONDS: u64 = 900;
 pub const INSTALL_MILLISECONDS: u64 = 50;
 /// Of how many kept commits on the installer doesn't wait.
 pub const URGENT_COMMITS: usize = 256;
-/// Of how many kept commits on who has committed waits until some are home: each keeps what it has read, up to 128 KB.
-pub const CROWDING_COMMITS: usize = 512;
+/// Of how many pinned blocks on who has committed waits until some are let go: a commit pins what it has read until it is home.
+pub const CROWDING_BLOCKS: usize = 16_384;
 /// How often a thread that is kept off yields before it sleeps.
 pub const YIELDS: u32 = 8;
 /// How long it sleeps first.
@@ -191,7 +193,7 @@ pub const FIRST_SLEEP_MICROSECONDS: u64 = 50;
 pub const LONGEST_SLEEP_MICROSECONDS: u64 = 1000;
 /// How long is waited after an accept that failed, before the next.
 pub const ACCEPT_SLEEP_MILLISECONDS: u64 = 20;
-/// How long who found no room in the log, or too many commits kept, waits before looking again.
+/// How long who found no room in the log, or too many blocks pinned, waits before looking again.
 pub const FULL_MILLISECONDS: u64 = 20;
 
 const _: () = prove!(FIRST_DOUBLE_INDEX == DIRECT_INDEXES + INDIRECT_INDEXES);

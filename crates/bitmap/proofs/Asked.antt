@@ -7,9 +7,9 @@ use Rattle.layout.specs.declared.grid.TheConstants.{PIECE_BITS, PIECE_BYTES, PIE
 use Rattle.layout.specs.Geometry.{table_at}
 use Rattle.layout.specs.Objects.{IsObject, bits}
 use Rattle.inode.specs.declared.snap.Snap.{Snap}
-use Rattle.inode.specs.declared.stop.Stop.{Stop}
-use Rattle.inode.specs.declared.stop.Stop.TheVariants as stop
-use Rattle.inode.specs.Over.{MayStop}
+use Rattle.inode.specs.declared.suspend.Suspend.{Suspend}
+use Rattle.inode.specs.declared.suspend.Suspend.TheVariants as suspend
+use Rattle.inode.specs.Over.{MaySuspend}
 use Rattle.inode.specs.Snap.{IsNew}
 use Rattle.bitmap.specs.Pieces.{IsAskedObject}
 
@@ -19,11 +19,11 @@ pub is_object : (g : Geometry) (first piece : ℕ) (addr : Addr) → FIRST_HOME_
 is_object g first piece addr from to block offset len =
     bits (piece % PIECES_PER_BLOCK) (omega arith) (omega (arith, from, block)) (omega (arith, to, block)) offset len
 
-pub may_stop : (snap : Snap) (why : Stop) → IsNew snap why → IsAskedObject snap.geometry why → MayStop snap why
-may_stop snap (stop.Need addr mode) new asked = (new, asked)
-may_stop snap (stop.Claim block) new asked = absurd asked
-may_stop snap stop.Io new asked = tt
-may_stop snap stop.NoMemory new asked = tt
+pub may_suspend : (snap : Snap) (why : Suspend) → IsNew snap why → IsAskedObject snap.geometry why → MaySuspend snap why
+may_suspend snap (suspend.Need addr mode) new asked = (new, asked)
+may_suspend snap (suspend.Claim block) new asked = absurd asked
+may_suspend snap suspend.Io new asked = tt
+may_suspend snap suspend.NoMemory new asked = tt
 
 -- the piece of the bitmap that has the bit of a block
 pub has_bit_of : (g : Geometry) (number : ℕ) (addr : Addr) → number < g.blocks

@@ -55,11 +55,11 @@ module _ (g : Geometry) (addr : Addr) (piece : ℕ)
       (record { bytes = λ are. are; parts = refl })
   frees_cleared image (number ∷ numbers) old new long was all cleared =
       subst (Frees g (number ∷ numbers) image)
-      (put_again image addr.block.0 addr.offset middle new (sym rest) room)
+      (put_again image addr.block.0 addr.offset middle new (sym rest) has_space)
       (frees_first g number numbers image next _ marks
       (frees_cleared next numbers middle new
       (ap (λ (content : List ℕ). length content) (here image addr.block.0 addr.offset middle)
-      ∙ spliced-length (image addr.block.0) middle addr.offset room ∙ long) lies all.1 cleared.2))
+      ∙ spliced-length (image addr.block.0) middle addr.offset has_space ∙ long) lies all.1 cleared.2))
     where
       middle : List ℕ
       middle = cleared.0
@@ -74,8 +74,8 @@ module _ (g : Geometry) (addr : Addr) (piece : ℕ)
       middle_long : length middle ≡ PIECE_BYTES
       middle_long = cleared.1.len ∙ old_long
 
-      room : addr.offset + length middle ≤ length (image addr.block.0)
-      room = omega (arith, middle_long, offset, long)
+      has_space : addr.offset + length middle ≤ length (image addr.block.0)
+      has_space = omega (arith, middle_long, offset, long)
 
       rest : length new ≡ length middle
       rest = cleared_length numbers middle new cleared.2
@@ -85,7 +85,7 @@ module _ (g : Geometry) (addr : Addr) (piece : ℕ)
           (here image addr.block.0 addr.offset middle)
           ∙ ap (λ k. take k (drop addr.offset (spliced (image addr.block.0) addr.offset middle)))
           (len ∙ sym middle_long)
-          ∙ there (image addr.block.0) middle addr.offset room
+          ∙ there (image addr.block.0) middle addr.offset has_space
 
       marks : MarksBlock g number false image next
       marks = marks_block g image next number false all.0.0

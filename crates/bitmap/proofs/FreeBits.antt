@@ -105,7 +105,7 @@ module _ (g : Geometry) (blocks : Image) (tree : Tree) (holds : Holds g blocks t
   inodes_are = ap (λ (one : model.Geometry). one.inodes) geometry_is
 
   pub data_there : first_data < g.blocks
-  data_there = let room = g.lawful.1.3 in omega (arith, room)
+  data_there = let has_space = g.lawful.1.3 in omega (arith, has_space)
 
   some_inodes : 0 < g.inodes
   some_inodes = let some = g.lawful.1.0 in omega (arith, some)
@@ -161,8 +161,8 @@ module _ (g : Geometry) (blocks : Image) (tree : Tree) (holds : Holds g blocks t
   all_bits : g.blocks ≤ block_bits
   all_bits = omega arith
 
-  abbrev clear_block : ℕ → ℕ
-  clear_block n = one_if (not (bit_at blocks FIRST_HOME_BLOCK n))
+  abbrev block_bit_free : ℕ → ℕ
+  block_bit_free n = one_if (not (bit_at blocks FIRST_HOME_BLOCK n))
 
   marked_as : (n : ℕ) → n < block_bits → bit_at blocks FIRST_HOME_BLOCK n ≡ is_marked_block g parts n
   marked_as n less =
@@ -200,7 +200,7 @@ module _ (g : Geometry) (blocks : Image) (tree : Tree) (holds : Holds g blocks t
       omega (arith, here, none)
 
   each_block : (n : ℕ) → n < block_bits
-      → clear_block n + times has n + is_below first_data n ≡ is_below g.blocks n
+      → block_bit_free n + times has n + is_below first_data n ≡ is_below g.blocks n
   each_block n less =
       ap (λ b. one_if (not b) + times has n + is_below first_data n) (marked_as n less)
       ∙ by_tests n (nat_lt n first_data) (nat_le g.blocks n) (is_had n) refl refl refl
@@ -208,10 +208,10 @@ module _ (g : Geometry) (blocks : Image) (tree : Tree) (holds : Holds g blocks t
   pub free_blocks : clear_of blocks FIRST_HOME_BLOCK (bitmap_blocks g.blocks) ≡ free tree
   free_blocks =
       let range = range_with_len 0 block_bits in
-      let each = same_sums (λ n. clear_block n + times has n + is_below first_data n) (is_below g.blocks)
+      let each = same_sums (λ n. block_bit_free n + times has n + is_below first_data n) (is_below g.blocks)
       0 block_bits (λ n from to. each_block n (omega (arith, to))) in
-      let outer = both_sums (λ n. clear_block n + times has n) (is_below first_data) range in
-      let inner = both_sums clear_block (times has) range in
+      let outer = both_sums (λ n. block_bit_free n + times has n) (is_below first_data) range in
+      let inner = both_sums block_bit_free (times has) range in
       let met = met_once block_bits has (all_so (λ b. is_data g b ≡ true) (λ b. b < block_bits) has
       (λ b is. let to = (in_data b is).1 in omega (arith, to, all_bits)) owned_data) in
       let low = (counts_below first_data block_bits).0 (omega (arith, data_there, all_bits)) in
@@ -226,8 +226,8 @@ module _ (g : Geometry) (blocks : Image) (tree : Tree) (holds : Holds g blocks t
   all_inode_bits : g.inodes ≤ inode_bits
   all_inode_bits = omega arith
 
-  abbrev clear_inode : ℕ → ℕ
-  clear_inode n = one_if (not (bit_at blocks (inode_bitmap_at g.blocks) n))
+  abbrev inode_bit_free : ℕ → ℕ
+  inode_bit_free n = one_if (not (bit_at blocks (inode_bitmap_at g.blocks) n))
 
   abbrev counted : ℕ → ℕ
   counted n = part (λ (e : ℕ × Node). 1) n (node_at tree n)
@@ -286,7 +286,7 @@ module _ (g : Geometry) (blocks : Image) (tree : Tree) (holds : Holds g blocks t
       one_or_other true = refl
       one_or_other false = refl
 
-  each_inode : (n : ℕ) → n < inode_bits → clear_inode n + counted n + is_below 1 n ≡ is_below g.inodes n
+  each_inode : (n : ℕ) → n < inode_bits → inode_bit_free n + counted n + is_below 1 n ≡ is_below g.inodes n
   each_inode n less =
       ap (λ b. one_if (not b) + counted n + is_below 1 n) (inode_marked_as n less)
       ∙ inode_by_tests n (nat_eq n 0) (nat_le g.inodes n) (is_used (parts.table n)) refl refl refl
@@ -305,10 +305,10 @@ module _ (g : Geometry) (blocks : Image) (tree : Tree) (holds : Holds g blocks t
       ≡ unused_numbers tree
   free_numbers =
       let range = range_with_len 0 inode_bits in
-      let each = same_sums (λ n. clear_inode n + counted n + is_below 1 n) (is_below g.inodes)
+      let each = same_sums (λ n. inode_bit_free n + counted n + is_below 1 n) (is_below g.inodes)
       0 inode_bits (λ n from to. each_inode n (omega (arith, to))) in
-      let outer = both_sums (λ n. clear_inode n + counted n) (is_below 1) range in
-      let inner = both_sums clear_inode counted range in
+      let outer = both_sums (λ n. inode_bit_free n + counted n) (is_below 1) range in
+      let inner = both_sums inode_bit_free counted range in
       let low = (counts_below 1 inode_bits).0 (omega (arith, some_inodes, all_inode_bits)) in
       let high = (counts_below g.inodes inode_bits).0 all_inode_bits in
       omega (arith, each, outer, inner, low, high, files_are, inodes_are)

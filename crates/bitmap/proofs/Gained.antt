@@ -21,8 +21,8 @@ use Rattle.layout.specs.Parts.{Parts, content_in, parts_of, put}
 use Rattle.layout.specs.Stands.{file_at}
 use Rattle.layout.proofs.Frame.{ChangesOne, counts}
 use Rattle.layout.proofs.Written.{not_same}
-use Rattle.inode.proofs.DraftsLemmas.Marks.{TakesAndDrops, clear_is_free, moved_marks, times}
-use Rattle.inode.proofs.DraftsLemmas.OneFile.{one_file}
+use Rattle.inode.proofs.WriteSetsLemmas.Marks.{TakesAndDrops, unmarked_is_free, moved_marks, times}
+use Rattle.inode.proofs.WriteSetsLemmas.OneFile.{one_file}
 use Rattle.bitmap.specs.NewBlock.{IsFreeBlock, marking}
 use Rattle.bitmap.proofs.NewBlocks.{marking_others, marking_them, of_each}
 
@@ -166,7 +166,7 @@ module _ (g : Geometry) (base : Image) (tree : Tree) (n : ℕ) (gained : List �
       by_bit : (t : Bool) → old.block_bits b ≡ t → t ≡ true
       by_bit true e = refl
       by_bit false e =
-          let free = clear_is_free g old b holds.parts.marked low e in
+          let free = unmarked_is_free g old b holds.parts.marked low e in
           let own = own_part g old n b less in
           absurd (omega (arith, free, own, some))
 

@@ -26,7 +26,7 @@ use Rattle.layout.specs.Holds.{Holds}
 use Rattle.layout.proofs.Mapped.{is_some}
 use Rattle.layout.proofs.Used.{owned_length}
 use Rattle.inode.proofs.AllTests.{all_five, all_seven, all_three, all_two, no_more}
-use Rattle.inode.proofs.FarThere.{numbers_pass, pointer_blocks_pass}
+use Rattle.inode.proofs.IndirectThere.{numbers_pass, pointer_blocks_pass}
 use Rattle.inode.proofs.InodeThere.{is_of_kind, is_read, is_sound}
 use Rattle.inode.proofs.UsedBlocks.{all_counted, counted, directory_counted, link_counted, regular_counted}
 
@@ -64,17 +64,17 @@ module _ (g : Geometry) where
   abbrev AreData : List ℕ → Type 0
   AreData = AllByRecursion (λ n. is_data g n ≡ true)
 
-  one_kept : (none : Bool) (n : ℕ) (rest : List ℕ) → (none || is_data g n) ≡ true → AreData rest
+  one_preserved : (none : Bool) (n : ℕ) (rest : List ℕ) → (none || is_data g n) ≡ true → AreData rest
       → AreData (cond (not none) (n ∷ rest) rest)
-  one_kept true n rest e are = are
-  one_kept false n rest e are = (e, are)
+  one_preserved true n rest e are = are
+  one_preserved false n rest e are = (e, are)
 
-  kept : (numbers : List ℕ) → list_all (is_data_block_or_none g) numbers ≡ true
+  is_preserved : (numbers : List ℕ) → list_all (is_data_block_or_none g) numbers ≡ true
       → AreData (filter is_some numbers)
-  kept [] e = tt
-  kept (n ∷ numbers) e =
+  is_preserved [] e = tt
+  is_preserved (n ∷ numbers) e =
       let both = all_two (is_data_block_or_none g n) (list_all (is_data_block_or_none g) numbers) e in
-      one_kept (nat_eq n 0) n (filter is_some numbers) both.0 (kept numbers both.1)
+      one_preserved (nat_eq n 0) n (filter is_some numbers) both.0 (is_preserved numbers both.1)
 
 module _ (g : Geometry) (blocks : Image) (tree : Tree) (holds : Holds g blocks tree) (n : ℕ)
     (less : n < g.inodes) where
@@ -105,6 +105,6 @@ module _ (g : Geometry) (blocks : Image) (tree : Tree) (holds : Holds g blocks t
       let read = read_as (Ok (Some i)) e in
       let good = is_sound g blocks tree n i holds less read in
       let file = is_of_kind g blocks tree n i holds less read in
-      kept g (pointer_blocks content i ++ numbers_of content i)
+      is_preserved g (pointer_blocks content i ++ numbers_of content i)
       (list_all-append (is_data_block_or_none g) (pointer_blocks content i) (numbers_of content i)
       ∙ (λ j. pointer_blocks_pass g content i i.kind good file j && numbers_pass g content i i.kind good file j))

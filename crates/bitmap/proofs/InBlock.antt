@@ -10,9 +10,9 @@ use Rattle.layout.specs.declared.grid.TheConstants.{PIECE_BITS, PIECE_BYTES}
 use Rattle.layout_records.specs.Bits.{bit_in}
 use Rattle.layout_records.proofs.OneBit.{differs, equal}
 
-module _ (content piece : List ℕ) (offset : ℕ) (room : offset + length piece ≤ length content) where
+module _ (content piece : List ℕ) (offset : ℕ) (has_space : offset + length piece ≤ length content) where
   before : length (take offset content) ≡ offset
-  before = length-take-le offset content (omega (arith, room))
+  before = length-take-le offset content (omega (arith, has_space))
 
   head : length (take offset content ++ piece) ≡ offset + length piece
   head = let a = length-append (take offset content) piece in let b = before in omega (arith, a, b)
@@ -41,22 +41,22 @@ module _ (content piece : List ℕ) (offset : ℕ) (room : offset + length piece
       ∙ get_or-append-add (take offset content ++ piece) (drop (offset + length piece) content) j 0
       ∙ get_or-drop (offset + length piece) content j 0
 
-module _ (content piece : List ℕ) (at bit : ℕ) (is : Bool) (room : PIECE_BYTES * at + PIECE_BYTES ≤ length content)
+module _ (content piece : List ℕ) (at bit : ℕ) (is : Bool) (has_space : PIECE_BYTES * at + PIECE_BYTES ≤ length content)
     (long : length piece ≡ PIECE_BYTES) (low : bit < PIECE_BITS)
     (put : (other : ℕ) → bit_in piece other
     ≡ cond (nat_eq other bit) is (bit_in (take PIECE_BYTES (drop (PIECE_BYTES * at) content)) other)) where
   fits : PIECE_BYTES * at + length piece ≤ length content
-  fits = omega (arith, room, long)
+  fits = omega (arith, has_space, long)
 
   same_byte : (other : ℕ) (a b : ℕ) → a ≡ b → nat_eq (a / 2 ^ (other % 8) % 2) 1
       ≡ nat_eq (b / 2 ^ (other % 8) % 2) 1
   same_byte other a b same = ap (λ v. nat_eq (v / 2 ^ (other % 8) % 2) 1) same
 
-  kept : (other : ℕ) → (other ≡ PIECE_BITS * at + bit → ⊥)
+  is_preserved : (other : ℕ) → (other ≡ PIECE_BITS * at + bit → ⊥)
       → get_or (spliced content (PIECE_BYTES * at) piece) (other / 8) 0 ≡ get_or content (other / 8) 0
       → bit_in (spliced content (PIECE_BYTES * at) piece) other
       ≡ cond (nat_eq other (PIECE_BITS * at + bit)) is (bit_in content other)
-  kept other not same =
+  is_preserved other not same =
       same_byte other _ _ same
       ∙ sym (ap (λ b. cond b is (bit_in content other)) (differs other (PIECE_BITS * at + bit) not))
 
@@ -88,7 +88,7 @@ module _ (content piece : List ℕ) (at bit : ℕ) (is : Bool) (room : PIECE_BYT
   pub in_block : (other : ℕ) → bit_in (spliced content (PIECE_BYTES * at) piece) other
       ≡ cond (nat_eq other (PIECE_BITS * at + bit)) is (bit_in content other)
   in_block other = elim (cases_lt other (PIECE_BITS * at)) [
-    | inl ahead_of ↦ kept other (λ same. omega (arith, same, ahead_of))
+    | inl ahead_of ↦ is_preserved other (λ same. omega (arith, same, ahead_of))
         (ahead content piece (PIECE_BYTES * at) fits (other / 8) (omega (arith, ahead_of)))
     | inr from ↦ (elim (cases_lt other (PIECE_BITS * at + PIECE_BITS)) [
       | inl less ↦
@@ -99,7 +99,7 @@ module _ (content piece : List ℕ) (at bit : ℕ) (is : Bool) (room : PIECE_BYT
       | inr behind ↦
           let split : PIECE_BYTES * at + length piece + (other / 8 - (PIECE_BYTES * at + PIECE_BYTES)) ≡ other / 8 =
           omega (arith, behind, long) in
-          kept other (λ same. omega (arith, same, behind, low))
+          is_preserved other (λ same. omega (arith, same, behind, low))
           (ap (λ n. get_or (spliced content (PIECE_BYTES * at) piece) n 0) (sym split)
           ∙ past content piece (PIECE_BYTES * at) fits (other / 8 - (PIECE_BYTES * at + PIECE_BYTES))
           ∙ ap (λ n. get_or content n 0) split)

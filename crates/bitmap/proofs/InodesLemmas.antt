@@ -4,3 +4,4 @@ pub mod Removed
 pub mod Made
 pub mod Linked
 pub mod OwnedBlocks
+pub mod InAnyOrder

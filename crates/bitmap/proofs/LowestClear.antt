@@ -13,15 +13,15 @@ pub lowest_clear : (bytes : List ℕ) (at : ℕ) → at < PIECE_BYTES → get_or
 lowest_clear bytes at less low =
     let byte = get_or bytes at 0 in
     let found = bit_at-trailing_ones w8 byte (omega (arith, low)) in
-    let place = trailing_ones w8 byte in
-    let few : place < 8 = found.0 in
-    let block : (8 * at + place) / 8 ≡ at = omega (arith, few) in
-    let rest : (8 * at + place) % 8 ≡ place = omega (arith, few) in (
+    let index_within = trailing_ones w8 byte in
+    let few : index_within < 8 = found.0 in
+    let block : (8 * at + index_within) / 8 ≡ at = omega (arith, few) in
+    let rest : (8 * at + index_within) % 8 ≡ index_within = omega (arith, few) in (
       omega (arith, few, less),
       (λ i. nat_eq (get_or bytes (block i) 0 / 2 ^ rest i % 2) 1) ∙ ap (λ v. nat_eq v 1) found.1,
     )
 
-full : (place : ℕ) → place < 8 → nat_eq (255 / 2 ^ place % 2) 1 ≡ true
+full : (index_within : ℕ) → index_within < 8 → nat_eq (255 / 2 ^ index_within % 2) 1 ≡ true
 full zero less = refl
 full (suc zero) less = refl
 full (suc (suc zero)) less = refl
@@ -30,7 +30,7 @@ full (suc (suc (suc (suc zero)))) less = refl
 full (suc (suc (suc (suc (suc zero))))) less = refl
 full (suc (suc (suc (suc (suc (suc zero)))))) less = refl
 full (suc (suc (suc (suc (suc (suc (suc zero))))))) less = refl
-full (suc (suc (suc (suc (suc (suc (suc (suc place)))))))) less = absurd (omega (arith, less))
+full (suc (suc (suc (suc (suc (suc (suc (suc index_within)))))))) less = absurd (omega (arith, less))
 
 pub byte_more : (bytes : List ℕ) (at : ℕ) → get_or bytes at 0 ≡ 255
     → ((other : ℕ) → other < 8 * at → bit_in bytes other ≡ true)

@@ -18,7 +18,7 @@ use Rattle.layout.specs.Parts.{Parts, bit_at, parts_of, put}
 use Rattle.layout.specs.Places.{is_data}
 use Rattle.layout.proofs.OnGrid.{data_within}
 use Rattle.layout.proofs.Written.{not_same}
-use Rattle.inode.proofs.DraftsLemmas.Marks.{clear_is_free, times}
+use Rattle.inode.proofs.WriteSetsLemmas.Marks.{unmarked_is_free, times}
 use Rattle.bitmap.specs.Bits.{IsClearOf, MarksBlock}
 use Rattle.bitmap.specs.NewBlock.{HasTaken, IsFreeBlock, IsNewBlock, marking}
 use Rattle.bitmap.proofs.FreeBits.{free_blocks}
@@ -70,9 +70,9 @@ marking_them (x ∷ xs) bits b some = elim (cases_eq x b) [
 ]
 
 -- a bit that is clear then was clear, and isn't one of them
-still_clear : (taken : List ℕ) (bits : ℕ → Bool) (b : ℕ) → marking taken bits b ≡ false
+still_unmarked : (taken : List ℕ) (bits : ℕ → Bool) (b : ℕ) → marking taken bits b ≡ false
     → (bits b ≡ false) × (times b taken ≡ 0)
-still_clear taken bits b clear = by_count (times b taken) refl
+still_unmarked taken bits b clear = by_count (times b taken) refl
   where
     by_count : (k : ℕ) → times b taken ≡ k → (bits b ≡ false) × (times b taken ≡ 0)
     by_count zero e = (sym (marking_others taken bits b e) ∙ clear, e)
@@ -127,11 +127,11 @@ module _ (g : Geometry) (base : Image) (tree : Tree) (taken : List ℕ) (image :
   found : (n : ℕ) → n < bits → bit_at image FIRST_HOME_BLOCK n ≡ false
       → IsFreeBlock g base n × (times n taken ≡ 0)
   found n less clear =
-      let is = still_clear taken parts.block_bits n (sym (bit_is n less) ∙ clear) in (
+      let is = still_unmarked taken parts.block_bits n (sym (bit_is n less) ∙ clear) in (
         record {
           lies = lies n less is.0;
           clear = is.0;
-          unowned = clear_is_free g parts n has.holds.parts.marked less is.0;
+          unowned = unmarked_is_free g parts n has.holds.parts.marked less is.0;
         },
         is.1,
       )

@@ -14,13 +14,13 @@ use Rattle.layout.proofs.Written.{elsewhere, here}
 spliced_again : (content old new : List ℕ) (offset : ℕ) → length old ≡ length new
     → offset + length old ≤ length content
     → spliced (spliced content offset old) offset new ≡ spliced content offset new
-spliced_again content old new offset same room =
-    λ i. ahead content old offset room 0 offset (omega arith) i ++ new ++ behind i
+spliced_again content old new offset same has_space =
+    λ i. ahead content old offset has_space 0 offset (omega arith) i ++ new ++ behind i
   where
     seam : offset + length new ≡ length (take offset content ++ old)
     seam =
         let both = length-append (take offset content) old in
-        let first = length-take-le offset content (omega (arith, room)) in
+        let first = length-take-le offset content (omega (arith, has_space)) in
         omega (arith, both, first, same)
 
     behind : drop (offset + length new) (spliced content offset old) ≡ drop (offset + length new) content
@@ -30,15 +30,15 @@ spliced_again content old new offset same room =
 
 spliced_same : (content : List ℕ) (offset len : ℕ) → offset + len ≤ length content
     → spliced content offset (take len (drop offset content)) ≡ content
-spliced_same content offset len room =
-    (λ i. sym (take-add offset len content) i ++ drop (offset + part-length len offset content room i) content)
+spliced_same content offset len has_space =
+    (λ i. sym (take-add offset len content) i ++ drop (offset + part-length len offset content has_space i) content)
     ∙ take-append-drop (offset + len) content
 
 -- what is put last stays
 pub put_again : (image : Image) (at offset : ℕ) (old new : List ℕ) → length old ≡ length new
     → offset + length old ≤ length (image at)
     → with_bytes (with_bytes image at offset old) at offset new ≡ with_bytes image at offset new
-put_again image at offset old new same room = λ i block. one block i
+put_again image at offset old new same has_space = λ i block. one block i
   where
     one : (block : ℕ) → with_bytes (with_bytes image at offset old) at offset new block
         ≡ with_bytes image at offset new block
@@ -48,7 +48,7 @@ put_again image at offset old new same room = λ i block. one block i
           (sym is)
           (here (with_bytes image at offset old) at offset new
           ∙ ap (λ content. spliced content offset new) (here image at offset old)
-          ∙ spliced_again (image at) old new offset same room ∙ sym (here image at offset new))
+          ∙ spliced_again (image at) old new offset same has_space ∙ sym (here image at offset new))
       | inr not ↦
           elsewhere (with_bytes image at offset old) at offset new block not
           ∙ elsewhere image at offset old block not ∙ sym (elsewhere image at offset new block not)
@@ -57,12 +57,12 @@ put_again image at offset old new same room = λ i block. one block i
 -- what is put where it lies changes nothing
 pub put_same : (image : Image) (at offset len : ℕ) → offset + len ≤ length (image at)
     → with_bytes image at offset (take len (drop offset (image at))) ≡ image
-put_same image at offset len room = λ i block. one block i
+put_same image at offset len has_space = λ i block. one block i
   where
     one : (block : ℕ) → with_bytes image at offset (take len (drop offset (image at))) block ≡ image block
     one block = elim (cases_eq block at) [
       | inl is ↦
           subst (λ k. with_bytes image at offset (take len (drop offset (image at))) k ≡ image k) (sym is)
-          (here image at offset (take len (drop offset (image at))) ∙ spliced_same (image at) offset len room)
+          (here image at offset (take len (drop offset (image at))) ∙ spliced_same (image at) offset len has_space)
       | inr not ↦ elsewhere image at offset (take len (drop offset (image at))) block not
     ]

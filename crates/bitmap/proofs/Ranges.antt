@@ -81,10 +81,10 @@ pub in_two : (f : ℕ → ℕ) (start all : ℕ) → start ≤ all
 in_two f start all less =
     let both = parted f 0 start (all - start) in
     let count : start + (all - start) ≡ all = omega (arith, less) in
-    let place : 0 + start ≡ start = omega arith in
+    let offsets_agree : 0 + start ≡ start = omega arith in
     let whole : sum_from f 0 (start + (all - start)) ≡ sum_from f 0 all = ap (sum_from f 0) count in
     let from : sum_from f (0 + start) (all - start) ≡ sum_from f start (all - start) =
-    ap (λ n. sum_from f n (all - start)) place in
+    ap (λ n. sum_from f n (all - start)) offsets_agree in
     omega (arith, both, whole, from)
 
 pub nothing : (xs : List ℕ) → sum_by (λ n. 0) xs ≡ 0

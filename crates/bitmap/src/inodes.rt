@@ -1,12 +1,12 @@
 //! Files that are made and taken away.
 
-mod freeing;
-mod linking;
-mod making;
+mod block_release;
+mod new_inode;
 mod numbers;
-mod removing;
+mod removal;
+mod symbolic_link;
 
-pub use freeing::free_all;
-pub use linking::make_link;
-pub use making::{emptied, make_empty};
-pub use removing::remove;
+pub use block_release::free_all;
+pub use new_inode::{emptied, make_empty};
+pub use removal::remove;
+pub use symbolic_link::make_link;

@@ -2,20 +2,20 @@
 //! cleared; and inodes that are made and freed by them.
 #![tactic(auto)]
 
-mod clearing;
-mod finding;
+mod allocation;
+mod enough_free;
+mod free_bit_laws;
+mod free_search;
 mod inodes;
-mod laws;
-mod marking;
+mod mark;
 mod pieces;
-mod room;
-mod taking;
+mod unmark;
 
-pub use clearing::clear_blocks;
-pub use finding::{new_block, new_number};
+pub use allocation::take_block;
+pub use enough_free::are_enough_free;
+pub use free_bit_laws::the_clear_bits_are_what_is_free;
+pub use free_search::{new_block, new_number};
 pub use inodes::{emptied, free_all, make_empty, make_link, remove};
-pub use laws::the_clear_bits_are_what_is_free;
-pub use marking::{mark_block, mark_number};
+pub use mark::{mark_block, mark_number};
 pub use pieces::{free_blocks, free_numbers};
-pub use room::is_room;
-pub use taking::take_block;
+pub use unmark::unmark_blocks;

@@ -14,7 +14,7 @@ ghost use Rattle.bitmap.specs.Clear.{clear_of};
 ghost use Rattle.bitmap.specs.Pieces.{IsAskedObject};
 
 use base::FIRST_HOME_BLOCK;
-use inode::{Snap, Stop, bytes_at};
+use inode::{Snap, Suspend, bytes_at};
 use layout::PIECES_PER_BLOCK;
 use layout_records::{clear_in, piece_addr};
 
@@ -27,32 +27,32 @@ pub(crate) fn start_in(from: u32, pieces: u32) -> u32
 }
 
 // How many bits are clear in a piece.
-pub(crate) fn clear_at(snap: &Snap, first: u32, piece: u32) -> Result<u32, Stop>
+pub(crate) fn clear_at(snap: &Snap, first: u32, piece: u32) -> Result<u32, Suspend>
     requires from { FIRST_HOME_BLOCK ≤ first }
     requires to { first + piece / PIECES_PER_BLOCK < table_at snap.now.geometry.blocks snap.now.geometry.inodes }
     ensures few { IfOk result (λ clear. clear ≤ PIECE_BITS) }
     ensures ok { IfOk result (λ clear. (blocks : Image) → Saw blocks snap.now
         → clear ≡ clear_in (piece_in blocks first piece)) }
-    ensures err { IfErr result (λ stop. IsNew snap.now stop) }
-    ensures asks { IfErr result (λ stop. IsAskedObject snap.now.geometry stop) }
-    ensures io { IfErr result (λ stop. NoneStand snap.now stop) }
+    ensures err { IfErr result (λ suspend. IsNew snap.now suspend) }
+    ensures asks { IfErr result (λ suspend. IsAskedObject snap.now.geometry suspend) }
+    ensures io { IfErr result (λ suspend. NoneStand snap.now suspend) }
 {
     match bytes_at(snap, piece_addr(first, piece)) {
         Ok(bytes) => Ok(clear_in(bytes)),
-        Err(stop) => Err(stop),
+        Err(suspend) => Err(suspend),
     }
 }
 
 // How many bits are clear in the bitmap of so many blocks that begins with this one.
-fn clear_of(snap: &Snap, first: u32, count: u32) -> Result<u32, Stop>
+fn clear_of(snap: &Snap, first: u32, count: u32) -> Result<u32, Suspend>
     requires from { FIRST_HOME_BLOCK ≤ first }
     requires to { first + count ≤ table_at snap.now.geometry.blocks snap.now.geometry.inodes }
     ensures ok { IfOk result (λ clear. (blocks : Image) → Saw blocks snap.now
         → ((number : ℕ) → number < first + count → length (blocks number) ≡ BLOCK_BYTES)
         → clear ≡ clear_of blocks first count) }
-    ensures err { IfErr result (λ stop. IsNew snap.now stop) }
-    ensures asks { IfErr result (λ stop. IsAskedObject snap.now.geometry stop) }
-    ensures io { IfErr result (λ stop. NoneStand snap.now stop) }
+    ensures err { IfErr result (λ suspend. IsNew snap.now suspend) }
+    ensures asks { IfErr result (λ suspend. IsAskedObject snap.now.geometry suspend) }
+    ensures io { IfErr result (λ suspend. NoneStand snap.now suspend) }
 {
     let mut clear = 0;
     for piece in 0..PIECES_PER_BLOCK * count {
@@ -62,24 +62,24 @@ fn clear_of(snap: &Snap, first: u32, count: u32) -> Result<u32, Stop>
 }
 
 /// How many data blocks are free.
-pub fn free_blocks(snap: &Snap) -> Result<u32, Stop>
+pub fn free_blocks(snap: &Snap) -> Result<u32, Suspend>
     ensures ok { IfOk result (λ clear. (blocks : Image) (tree : Tree) → Saw blocks snap.now
         → Holds snap.now.geometry blocks tree → clear ≡ free tree) }
-    ensures err { IfErr result (λ stop. IsNew snap.now stop) }
-    ensures asks { IfErr result (λ stop. IsAskedObject snap.now.geometry stop) }
-    ensures io { IfErr result (λ stop. NoneStand snap.now stop) }
+    ensures err { IfErr result (λ suspend. IsNew snap.now suspend) }
+    ensures asks { IfErr result (λ suspend. IsAskedObject snap.now.geometry suspend) }
+    ensures io { IfErr result (λ suspend. NoneStand snap.now suspend) }
 {
     let first = snap.geometry.inode_bitmap();
     clear_of(snap, FIRST_HOME_BLOCK, first.0 - FIRST_HOME_BLOCK)
 }
 
 /// How many numbers no file has.
-pub fn free_numbers(snap: &Snap) -> Result<u32, Stop>
+pub fn free_numbers(snap: &Snap) -> Result<u32, Suspend>
     ensures ok { IfOk result (λ clear. (blocks : Image) (tree : Tree) → Saw blocks snap.now
         → Holds snap.now.geometry blocks tree → clear ≡ unused_numbers tree) }
-    ensures err { IfErr result (λ stop. IsNew snap.now stop) }
-    ensures asks { IfErr result (λ stop. IsAskedObject snap.now.geometry stop) }
-    ensures io { IfErr result (λ stop. NoneStand snap.now stop) }
+    ensures err { IfErr result (λ suspend. IsNew snap.now suspend) }
+    ensures asks { IfErr result (λ suspend. IsAskedObject snap.now.geometry suspend) }
+    ensures io { IfErr result (λ suspend. NoneStand snap.now suspend) }
 {
     let first = snap.geometry.inode_bitmap();
     let end = snap.geometry.inode_table();

@@ -14,7 +14,7 @@ pub mod EightBytes
 pub mod Places
 pub mod Opening
 pub mod Effects
-pub mod Beside
+pub mod Unaffected
 pub mod OnlyRead
 pub mod Ends
 pub mod Once

@@ -37,7 +37,7 @@ pub fn start_of(block: &Block) -> u64
 pub fn put_end(header: &mut Block, end: u64)
     ensures { header.new ≡ with_number (replicate BLOCK_BYTES 0) 0 end }
 {
-    clear(header);
+    fill_with_zeros(header);
     header.put(0, &end.to_le_bytes());
 }
 
@@ -56,7 +56,7 @@ pub fn put_address(header: &mut Block, slot: u64, home: BlockNo)
 pub fn put_start(block: &mut Block, start: u64)
     ensures { block.new ≡ with_number (replicate BLOCK_BYTES 0) 0 start }
 {
-    clear(block);
+    fill_with_zeros(block);
     block.put(0, &start.to_le_bytes());
 }
 
@@ -80,7 +80,7 @@ fn number(block: &Block, offset: usize) -> u64
 }
 
 // Makes a block zeros.
-fn clear(block: &mut Block)
+fn fill_with_zeros(block: &mut Block)
     ensures { block.new ≡ replicate BLOCK_BYTES 0 }
 {
     block.put(0, &[0; BLOCK_BYTES]);

@@ -5,7 +5,7 @@ ghost use Rattle.base.specs.declared.TheConstants.{FIRST_HOME_BLOCK, LOG_SLOTS, 
 ghost use Rattle.circ.specs.Log.EightBytes.{number_at};
 ghost use Rattle.circ.specs.Log.Log.{IsHomeOn, blocks_of};
 ghost use Rattle.circ.specs.Log.Overlay.{start_in, home_at, positions};
-ghost use Rattle.circ.specs.Log.Recovery.{HasOnlyRead, CountsFault, IsUnspoiled, image_of, IsRecovered, IsLog};
+ghost use Rattle.circ.specs.Log.Recovery.{HasOnlyRead, CountsFault, IsCertain, image_of, IsRecovered, IsLog};
 
 use crate::header::{address_at, end_of, start_of};
 use crate::log::{LogFault, Recovered};
@@ -22,7 +22,7 @@ pub fn read_log<D: CrashDisk>(
     ensures reads { HasOnlyRead (D.device disk.old) (D.device disk.new) }
     ensures failure { CountsFault (D.device disk.old) (D.device disk.new) result }
     ensures model { D.keeps_model disk.new → D.keeps_model disk.old }
-    ensures log { D.keeps_model disk.new → IsUnspoiled (D.device disk.old)
+    ensures log { D.keeps_model disk.new → IsCertain (D.device disk.old)
         → IsLog (D.device disk.old).size (image_of (D.device disk.old)) result }
 {
     let Recovered { start: _, logged } = recover(alloc, disk)?;
@@ -40,12 +40,12 @@ pub fn recover<D: CrashDisk>(alloc: Global, disk: &mut D) -> Result<Recovered, L
     ensures reads { HasOnlyRead (D.device disk.old) (D.device disk.new) }
     ensures failure { CountsFault (D.device disk.old) (D.device disk.new) result }
     ensures model { D.keeps_model disk.new → D.keeps_model disk.old }
-    ensures found { D.keeps_model disk.new → IsUnspoiled (D.device disk.old)
+    ensures found { D.keeps_model disk.new → IsCertain (D.device disk.old)
         → IsRecovered (D.device disk.old).size (image_of (D.device disk.old)) result }
 {
     let (header, start) = read_ends(alloc, disk)?;
     let blocks = disk.blocks();
-    let count = positions_told(&header, start, blocks)?;
+    let count = positions_in_header(&header, start, blocks)?;
     let logged = read_slots(alloc, disk, blocks, &header, start, count)?;
     Ok(Recovered { start, logged })
 }
@@ -57,9 +57,9 @@ fn read_ends<D: CrashDisk>(alloc: Global, disk: &mut D) -> Result<(Block, u64), 
     ensures reads { HasOnlyRead (D.device disk.old) (D.device disk.new) }
     ensures failure { CountsFault (D.device disk.old) (D.device disk.new) result }
     ensures model { D.keeps_model disk.new → D.keeps_model disk.old }
-    ensures header { D.keeps_model disk.new → IsUnspoiled (D.device disk.old)
+    ensures header { D.keeps_model disk.new → IsCertain (D.device disk.old)
         → IfOk result (λ ends. ends.0 ≡ image_of (D.device disk.old) LOG_HEADER_BLOCK) }
-    ensures start { D.keeps_model disk.new → IsUnspoiled (D.device disk.old)
+    ensures start { D.keeps_model disk.new → IsCertain (D.device disk.old)
         → IfOk result (λ ends. ends.1 ≡ start_in (image_of (D.device disk.old))) }
     ensures other { OnErr result (IsErrOf result LogFault.Device ⊎ IsErrOf result LogFault.NoMemory) }
 {
@@ -70,7 +70,7 @@ fn read_ends<D: CrashDisk>(alloc: Global, disk: &mut D) -> Result<(Block, u64), 
 }
 
 // How many positions the header tells from the start on.
-fn positions_told(header: &Block, start: u64, blocks: u32) -> Result<usize, LogFault>
+fn positions_in_header(header: &Block, start: u64, blocks: u32) -> Result<usize, LogFault>
     ensures end { IfOk result (λ count. start + count ≡ number_at header.now 0) }
     ensures fits { IfOk result (λ count. start + count < 2 ^ 64) }
     ensures slots { IfOk result (λ count. count ≤ LOG_SLOTS) }
@@ -101,7 +101,7 @@ fn read_start<D: CrashDisk>(alloc: Global, disk: &mut D) -> Result<u64, LogFault
     ensures reads { HasOnlyRead (D.device disk.old) (D.device disk.new) }
     ensures failure { CountsFault (D.device disk.old) (D.device disk.new) result }
     ensures model { D.keeps_model disk.new → D.keeps_model disk.old }
-    ensures start { D.keeps_model disk.new → IsUnspoiled (D.device disk.old)
+    ensures start { D.keeps_model disk.new → IsCertain (D.device disk.old)
         → IfOk result (λ start. start ≡ start_in (image_of (D.device disk.old))) }
     ensures other { OnErr result (IsErrOf result LogFault.Device ⊎ IsErrOf result LogFault.NoMemory) }
 {
@@ -126,7 +126,7 @@ fn read_block<D: CrashDisk>(disk: &mut D, block: BlockNo, out: &mut Block) -> Re
     ensures reads { HasOnlyRead (D.device disk.old) (D.device disk.new) }
     ensures failure { CountsFault (D.device disk.old) (D.device disk.new) result }
     ensures model { D.keeps_model disk.new → D.keeps_model disk.old }
-    ensures newest { D.keeps_model disk.new → IsUnspoiled (D.device disk.old)
+    ensures newest { D.keeps_model disk.new → IsCertain (D.device disk.old)
         → OnOk result (out.new ≡ image_of (D.device disk.old) block.0) }
     ensures other { OnErr result (IsErrOf result LogFault.Device) }
 {
@@ -172,7 +172,7 @@ fn read_slots<D: CrashDisk>(
     ensures reads { HasOnlyRead (D.device disk.old) (D.device disk.new) }
     ensures failure { CountsFault (D.device disk.old) (D.device disk.new) result }
     ensures model { D.keeps_model disk.new → D.keeps_model disk.old }
-    ensures positions { D.keeps_model disk.new → IsUnspoiled (D.device disk.old)
+    ensures positions { D.keeps_model disk.new → IsCertain (D.device disk.old)
         → IfOk result (λ logged. logged.items
         ≡ positions header.now (image_of (D.device disk.old)) start count) }
     ensures other { OnErr result (IsErrOf result LogFault.Device ⊎ IsErrOf result LogFault.NoMemory) }

@@ -8,9 +8,9 @@ use Rattle.base.specs.declared.TheConstants.{SLOTS_PER_BLOCK}
 use Rattle.disk.specs.Crash.{Image}
 use Rattle.layout.specs.declared.geometry.Geometry.{Geometry}
 use Rattle.layout.specs.declared.inode.Inode.{Inode}
-use Rattle.layout.specs.Decode.{IsDirectory, directory_in, entries_in, entry_in, named_in, span_of}
+use Rattle.layout.specs.Decode.{IsDirectory, directory_in, entries_in, dirent_in, named_in, span_of}
 use Rattle.nfs_spec.specs.Procedures.RmDir.{has_names}
-use Rattle.procs_files.specs.declared.entry.SlotName.{SlotName}
+use Rattle.procs_files.specs.declared.dirent.SlotName.{SlotName}
 use Rattle.dir.specs.Slots.{AreFree, IsNext, Lying, slot_at}
 use Rattle.dir.proofs.FoundIn.{entries}
 use Rattle.dir.proofs.Members.{In, in_range}
@@ -18,7 +18,7 @@ use Rattle.dir.proofs.Members.{In, in_range}
 none_lie : (lies : Lying) (a n : ℕ) → AreFree lies a (a + n) → entries lies a n ≡ []
 none_lie lies a zero free = refl
 none_lie lies a (suc n) free =
-    ap (λ read. cons_option (entry_in a read) (entries lies (a + 1) n)) (free a (omega arith) (omega arith))
+    ap (λ read. cons_option (dirent_in a read) (entries lies (a + 1) n)) (free a (omega arith) (omega arith))
     ∙ none_lie lies (a + 1) n (λ slot low less. free slot (omega (arith, low)) (omega (arith, less)))
 
 some_in : {A : Type 0} (x : A) (xs : List A) → In x xs → 0 < length xs
@@ -44,8 +44,8 @@ module _ (g : Geometry) (content : Image) (inode : Inode) (is_directory : IsDire
       → false ≡ not (has_names (directory_in g.inodes content inode))
   some_names named next =
       let less = next.1 in
-      let some = some_in _ _ (in_range (λ index. entry_in index (lies index)) 0 all named.slot
+      let some = some_in _ _ (in_range (λ index. dirent_in index (lies index)) 0 all named.slot
       (named.name, record { number = named.number; slot = named.slot }) next.0 (omega (arith, less))
-      (ap (entry_in named.slot) next.2)) in
+      (ap (dirent_in named.slot) next.2)) in
       let count = as_many in
       sym (ap not (lt-ltb 0 (length (map.entries (entries_in g.inodes content inode))) (omega (arith, some, count))))

@@ -14,22 +14,22 @@ use Rattle.layout.specs.declared.fault.LayoutFault.{LayoutFault}
 use Rattle.layout.specs.declared.geometry.Geometry.{Geometry}
 use Rattle.layout.specs.declared.inode.Inode.{Inode}
 use Rattle.layout.specs.declared.slot.Slot.{Slot}
-use Rattle.layout.specs.Decode.{IsDirectory, entries_in, entry_in, named_in, span_of}
+use Rattle.layout.specs.Decode.{IsDirectory, entries_in, dirent_in, named_in, span_of}
 use Rattle.layout.specs.SlotForm.{number_under}
-use Rattle.nfs_spec.specs.Model.Node.{DirectoryEntry}
-use Rattle.procs_files.specs.declared.entry.Entry.{Entry}
+use Rattle.nfs_spec.specs.Model.Node.{DirentValue}
+use Rattle.procs_files.specs.declared.dirent.SlotDirent.{SlotDirent}
 use Rattle.dir.specs.Slots.{IsFound, Lying, NoneHas, slot_at}
-use Rattle.procs_files.specs.Heads.{entry_of}
+use Rattle.procs_files.specs.Heads.{dirent_of}
 use Rattle.dir.proofs.Distinct.{Once, found_once, tied}
 use Rattle.dir.proofs.Members.{in_range, same}
 
 abbrev Read : Type 0
 Read = Result (Option Slot) LayoutFault
 
-abbrev pub entries : Lying → ℕ → ℕ → List (List ℕ × DirectoryEntry)
-entries lies a n = filter_map (λ index. entry_in index (lies index)) (range_with_len a n)
+abbrev pub entries : Lying → ℕ → ℕ → List (List ℕ × DirentValue)
+entries lies a n = filter_map (λ index. dirent_in index (lies index)) (range_with_len a n)
 
-abbrev seek : List ℕ → List (List ℕ × DirectoryEntry) → Option DirectoryEntry
+abbrev seek : List ℕ → List (List ℕ × DirentValue) → Option DirentValue
 seek name es = find (slice_cmp nat_cmp) name es
 
 pub exact : IsAntisymmetric (slice_cmp nat_cmp)
@@ -53,9 +53,9 @@ is_under : (test : Bool) (number wanted : ℕ) → ◌≡◌ {A = Option ℕ} (c
 is_under true number wanted e = (refl, same number wanted e)
 is_under false number wanted e = cc
 
-skipped : (name : List ℕ) (slot : ℕ) (read : Read) (es : List (List ℕ × DirectoryEntry))
+skipped : (name : List ℕ) (slot : ℕ) (read : Read) (es : List (List ℕ × DirentValue))
     → ((number : ℕ) → number_under name read ≡ Ok (Some number) → ⊥)
-    → seek name (cons_option (entry_in slot read) es) ≡ seek name es
+    → seek name (cons_option (dirent_in slot read) es) ≡ seek name es
 skipped name slot (Ok None) es none = refl
 skipped name slot (Ok (Some one)) es none =
     ap (λ b. cond b (Some (record { number = one.number; slot = slot })) (seek name es))
@@ -63,7 +63,7 @@ skipped name slot (Ok (Some one)) es none =
 skipped name slot (Err fault) es none = refl
 
 taken : (name : List ℕ) (slot wanted : ℕ) (read : Read) → number_under name read ≡ Ok (Some wanted)
-    → entry_in slot read ≡ Some (name, record { number = wanted; slot = slot })
+    → dirent_in slot read ≡ Some (name, record { number = wanted; slot = slot })
 taken name slot wanted (Ok None) e = cc
 taken name slot wanted (Ok (Some one)) e =
     let both = is_under (is_eq (slice_cmp nat_cmp name one.name)) one.number wanted (ok_of _ (Some wanted) e) in
@@ -82,23 +82,23 @@ module _ (lies : Lying) (name : List ℕ) where
 
   -- where no name stands twice
   pub found : (n : ℕ) → Once {R = slice_cmp nat_cmp} nat_list_cmp_total exact (entries lies 0 n)
-      → (place : Option Entry) → IsFound lies name 0 n place
-      → option_map entry_of place ≡ seek name (entries lies 0 n)
+      → (search_hit : Option SlotDirent) → IsFound lies name 0 n search_hit
+      → option_map dirent_of search_hit ≡ seek name (entries lies 0 n)
   found n once None is =
       sym (none_found 0 n (λ slot number low less. is slot number low (omega (arith, less))))
-  found n once (Some place) is =
+  found n once (Some search_hit) is =
       let less = is.1 in
-      sym (found_once nat_list_cmp_total exact (entries lies 0 n) once name (entry_of place)
-      (in_range (λ index. entry_in index (lies index)) 0 n place.slot (name, entry_of place) (omega arith)
-      (omega (arith, less)) (taken name place.slot place.number (lies place.slot) is.2)))
+      sym (found_once nat_list_cmp_total exact (entries lies 0 n) once name (dirent_of search_hit)
+      (in_range (λ index. dirent_in index (lies index)) 0 n search_hit.slot (name, dirent_of search_hit) (omega arith)
+      (omega (arith, less)) (taken name search_hit.slot search_hit.number (lies search_hit.slot) is.2)))
 
-pub is_found : (g : Geometry) (content : Image) (inode : Inode) (name : List ℕ) (place : Option Entry)
+pub is_found : (g : Geometry) (content : Image) (inode : Inode) (name : List ℕ) (search_hit : Option SlotDirent)
     → IsDirectory g content inode
-    → IsFound (slot_at g.inodes content inode) name 0 (SLOTS_PER_BLOCK * span_of inode) place
-    → option_map entry_of place ≡ get (entries_in g.inodes content inode) name
+    → IsFound (slot_at g.inodes content inode) name 0 (SLOTS_PER_BLOCK * span_of inode) search_hit
+    → option_map dirent_of search_hit ≡ get (entries_in g.inodes content inode) name
 unfolding named_in
-is_found g content inode name place directory is =
-    found (slot_at g.inodes content inode) name (SLOTS_PER_BLOCK * span_of inode) directory.once place is
+is_found g content inode name search_hit directory is =
+    found (slot_at g.inodes content inode) name (SLOTS_PER_BLOCK * span_of inode) directory.once search_hit is
     ∙ sym (get-from_entries nat_list_cmp_total
     (entries (slot_at g.inodes content inode) 0 (SLOTS_PER_BLOCK * span_of inode)) name)
 
@@ -121,6 +121,6 @@ module _ (lies : Lying) (name : List ℕ) (before end : ℕ) where
   none_more first rest slot number low less is =
       elim (cases_lt slot before) [ inl early ↦ first slot number low early is | inr late ↦ rest slot number late less is ]
 
-  pub found_within : (all : ℕ) (place : Entry) → end ≤ all → IsFound lies name before end (Some place)
-      → IsFound lies name 0 all (Some place)
-  found_within all place fits is = let less = is.1 in (omega arith, omega (arith, less, fits), is.2)
+  pub found_within : (all : ℕ) (search_hit : SlotDirent) → end ≤ all → IsFound lies name before end (Some search_hit)
+      → IsFound lies name 0 all (Some search_hit)
+  found_within all search_hit fits is = let less = is.1 in (omega arith, omega (arith, less, fits), is.2)

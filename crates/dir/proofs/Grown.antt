@@ -14,11 +14,11 @@ use Rattle.nfs_spec.specs.Model.Tree.{Tree}
 use Rattle.inode.specs.declared.snap.Snap.{Snap}
 use Rattle.inode.specs.Over.{HasInode}
 use Rattle.inode.specs.Read.{Saw}
-use Rattle.procs_files.specs.declared.entry.Entry.{Entry}
-use Rattle.dir.specs.declared.sought.Sought.{Sought}
+use Rattle.procs_files.specs.declared.dirent.SlotDirent.{SlotDirent}
+use Rattle.dir.specs.declared.cursor.SearchCursor.{SearchCursor}
 use Rattle.dir.specs.Slots.{HasBlockAt, IsDirectoryOf, IsFound, Lying, NoneHas, NoneRefused, block_slot, slot_at}
-use Rattle.dir.specs.Sought.{IsClearAt, IsClearBehind, IsSought}
-use Rattle.dir.specs.Sought.IsClearBehind.{more, same as kept_same}
+use Rattle.dir.specs.SearchCursor.{IsValidAt, IsValidBehind, IsSearchCursor}
+use Rattle.dir.specs.SearchCursor.IsValidBehind.{more, same as preserved_same}
 use Rattle.dir.proofs.FoundIn.{found_within, none_more}
 
 module _ (snap later : Snap) (same : later.geometry ≡ snap.geometry)
@@ -38,25 +38,25 @@ module _ (snap later : Snap) (same : later.geometry ≡ snap.geometry)
       → IsDirectoryOf later blocks tree number inode → IsDirectoryOf snap blocks tree number inode
   before blocks tree number inode is = record { has = has blocks tree number inode is.has; kind = is.kind }
 
-  pub grown : (sought : Sought) → IsSought snap sought → IsSought later sought
-  grown sought is = record {
+  pub grown : (cursor : SearchCursor) → IsSearchCursor snap cursor → IsSearchCursor later cursor
+  grown cursor is = record {
     within = λ blocks inode seen there.
         is.within blocks inode (saw blocks seen)
-        (subst (λ (g : Geometry). inode_at g blocks sought.directory ≡ Ok (Some inode)) same there);
+        (subst (λ (g : Geometry). inode_at g blocks cursor.directory ≡ Ok (Some inode)) same there);
     none = λ blocks tree inode directory none.
-        subst (λ (g : Geometry). NoneHas (slot_at g.inodes (content_in g blocks) inode) sought.name 0
-        (SLOTS_PER_BLOCK * sought.blocks)) (sym same)
-        (is.none blocks tree inode (before blocks tree sought.directory inode directory) none);
-    some = λ blocks tree inode place directory some.
-        subst (λ (g : Geometry). IsFound (slot_at g.inodes (content_in g blocks) inode) sought.name 0
-        (SLOTS_PER_BLOCK * sought.blocks) (Some place)) (sym same)
-        (is.some blocks tree inode place (before blocks tree sought.directory inode directory) some);
+        subst (λ (g : Geometry). NoneHas (slot_at g.inodes (content_in g blocks) inode) cursor.name 0
+        (SLOTS_PER_BLOCK * cursor.blocks)) (sym same)
+        (is.none blocks tree inode (before blocks tree cursor.directory inode directory) none);
+    some = λ blocks tree inode search_hit directory some.
+        subst (λ (g : Geometry). IsFound (slot_at g.inodes (content_in g blocks) inode) cursor.name 0
+        (SLOTS_PER_BLOCK * cursor.blocks) (Some search_hit)) (sym same)
+        (is.some blocks tree inode search_hit (before blocks tree cursor.directory inode directory) some);
     few = is.few;
-    clear = λ blocks inode index seen there less number at long.
+    valid_blocks = λ blocks inode index seen there less number at long.
         subst (λ (g : Geometry). NoneRefused (block_slot g.inodes (SLOTS_PER_BLOCK * index) (blocks number))
         (SLOTS_PER_BLOCK * index) (SLOTS_PER_BLOCK * index + SLOTS_PER_BLOCK)) (sym same)
-        (is.clear blocks inode index (saw blocks seen)
-        (subst (λ (g : Geometry). inode_at g blocks sought.directory ≡ Ok (Some inode)) same there) less number at long);
+        (is.valid_blocks blocks inode index (saw blocks seen)
+        (subst (λ (g : Geometry). inode_at g blocks cursor.directory ≡ Ok (Some inode)) same there) less number at long);
   }
 
 -- ---- one block more
@@ -71,7 +71,7 @@ one_inode fallback a b e = ap (λ (r : Read). elim r [
 ]) e
 
 module _ (lies : Lying) (name : List ℕ) (before : ℕ) where
-  more_none : (found : Option Entry) → found ≡ None → NoneHas lies name 0 (SLOTS_PER_BLOCK * before)
+  more_none : (found : Option SlotDirent) → found ≡ None → NoneHas lies name 0 (SLOTS_PER_BLOCK * before)
       → IsFound lies name (SLOTS_PER_BLOCK * before) (SLOTS_PER_BLOCK * before + SLOTS_PER_BLOCK) found
       → NoneHas lies name 0 (SLOTS_PER_BLOCK * (before + 1))
   more_none found none first is = λ slot number low less.
@@ -79,15 +79,15 @@ module _ (lies : Lying) (name : List ℕ) (before : ℕ) where
       (subst (IsFound lies name (SLOTS_PER_BLOCK * before) (SLOTS_PER_BLOCK * before + SLOTS_PER_BLOCK)) none is)
       slot number low (omega (arith, less))
 
-  more_some : (found : Option Entry) (place : Entry) → found ≡ Some place
+  more_some : (found : Option SlotDirent) (search_hit : SlotDirent) → found ≡ Some search_hit
       → IsFound lies name (SLOTS_PER_BLOCK * before) (SLOTS_PER_BLOCK * before + SLOTS_PER_BLOCK) found
-      → IsFound lies name 0 (SLOTS_PER_BLOCK * (before + 1)) (Some place)
-  more_some found place some is =
+      → IsFound lies name 0 (SLOTS_PER_BLOCK * (before + 1)) (Some search_hit)
+  more_some found search_hit some is =
       found_within lies name (SLOTS_PER_BLOCK * before) (SLOTS_PER_BLOCK * before + SLOTS_PER_BLOCK)
-      (SLOTS_PER_BLOCK * (before + 1)) place (omega arith)
+      (SLOTS_PER_BLOCK * (before + 1)) search_hit (omega arith)
       (subst (IsFound lies name (SLOTS_PER_BLOCK * before) (SLOTS_PER_BLOCK * before + SLOTS_PER_BLOCK)) some is)
 
-module _ (snap : Snap) (old new : Sought) (inode : Inode) (directory : new.directory ≡ old.directory)
+module _ (snap : Snap) (old new : SearchCursor) (inode : Inode) (directory : new.directory ≡ old.directory)
     (name : new.name ≡ old.name) (next : new.blocks ≡ old.blocks + 1) (none : old.found ≡ None)
     (less : old.blocks < span_of inode)
     (there : (blocks : Image) → Saw blocks snap → inode_at snap.geometry blocks old.directory ≡ Ok (Some inode))
@@ -98,7 +98,7 @@ module _ (snap : Snap) (old new : Sought) (inode : Inode) (directory : new.direc
     (first : ℕ) (bytes : List ℕ) (at_first : first ≡ SLOTS_PER_BLOCK * old.blocks)
     (read : (blocks : Image) (number : ℕ) → Saw blocks snap → HasBlockAt blocks inode old.blocks number
     → length (blocks number) ≡ BLOCK_BYTES → bytes ≡ blocks number)
-    (behind : IsClearBehind snap.geometry.inodes first bytes old new.clear) where
+    (behind : IsValidBehind snap.geometry.inodes first bytes old new.valid_blocks) where
   is_it : (blocks : Image) (one : Inode) → Saw blocks snap
       → inode_at snap.geometry blocks new.directory ≡ Ok (Some one) → inode ≡ one
   is_it blocks one seen at =
@@ -112,33 +112,33 @@ module _ (snap : Snap) (old new : Sought) (inode : Inode) (directory : new.direc
       (subst (λ (i : Inode). IsDirectoryOf snap blocks tree new.directory i)
       (sym (is_it blocks one is.has.over.saw is.has.there)) is)
 
-  few_clear : old.clear ≤ old.blocks → IsClearBehind snap.geometry.inodes first bytes old new.clear
-      → new.clear ≤ new.blocks
-  few_clear few (kept_same kept) = omega (arith, kept, few, next)
-  few_clear few (more all one none) = omega (arith, one, next)
+  few_valid : old.valid_blocks ≤ old.blocks → IsValidBehind snap.geometry.inodes first bytes old new.valid_blocks
+      → new.valid_blocks ≤ new.blocks
+  few_valid few (preserved_same is_preserved) = omega (arith, is_preserved, few, next)
+  few_valid few (more all one none) = omega (arith, one, next)
 
   -- the block that was looked through is clear, where it is counted so
-  clear_here : NoneRefused (block_slot snap.geometry.inodes first bytes) first (first + SLOTS_PER_BLOCK)
-      → (blocks : Image) → Saw blocks snap → IsClearAt snap blocks inode old.blocks
-  clear_here none blocks seen number at long =
+  valid_here : NoneRefused (block_slot snap.geometry.inodes first bytes) first (first + SLOTS_PER_BLOCK)
+      → (blocks : Image) → Saw blocks snap → IsValidAt snap blocks inode old.blocks
+  valid_here none blocks seen number at long =
       subst (λ (from : ℕ). NoneRefused (block_slot snap.geometry.inodes from (blocks number)) from
       (from + SLOTS_PER_BLOCK)) at_first
       (subst (λ (b : List ℕ). NoneRefused (block_slot snap.geometry.inodes first b) first (first + SLOTS_PER_BLOCK))
       (read blocks number seen at long) none)
 
-  clear_so_far : IsClearBehind snap.geometry.inodes first bytes old new.clear → (blocks : Image) → Saw blocks snap
-      → ((index : ℕ) → index < old.clear → IsClearAt snap blocks inode index)
-      → (index : ℕ) → index < new.clear → IsClearAt snap blocks inode index
-  clear_so_far (kept_same kept) blocks seen before index less = before index (omega (arith, less, kept))
-  clear_so_far (more all one none) blocks seen before index less = elim (cases_lt index old.blocks) [
+  valid_so_far : IsValidBehind snap.geometry.inodes first bytes old new.valid_blocks → (blocks : Image) → Saw blocks snap
+      → ((index : ℕ) → index < old.valid_blocks → IsValidAt snap blocks inode index)
+      → (index : ℕ) → index < new.valid_blocks → IsValidAt snap blocks inode index
+  valid_so_far (preserved_same is_preserved) blocks seen before index less = before index (omega (arith, less, is_preserved))
+  valid_so_far (more all one none) blocks seen before index less = elim (cases_lt index old.blocks) [
     | inl early ↦ before index (omega (arith, early, all))
     | inr late ↦
         let last : old.blocks ≡ index = omega (arith, late, less, one) in
-        subst (IsClearAt snap blocks inode) last (clear_here none blocks seen)
+        subst (IsValidAt snap blocks inode) last (valid_here none blocks seen)
   ]
 
-  pub looked : IsSought snap old → IsSought snap new
-  looked was = record {
+  pub scanned : IsSearchCursor snap old → IsSearchCursor snap new
+  scanned was = record {
     within = λ blocks one seen at.
         let same : span_of inode ≡ span_of one = ap span_of (is_it blocks one seen at) in
         omega (arith, same, less, next);
@@ -151,37 +151,37 @@ module _ (snap : Snap) (old new : Sought) (inode : Inode) (directory : new.direc
         (is_it blocks one is.has.over.saw is.has.there)
         (more_none (lies inode) old.name old.blocks new.found found (was.none blocks tree inode it none)
         (ok blocks tree old.directory it less))));
-    some = λ blocks tree one place is found.
+    some = λ blocks tree one search_hit is found.
         let lies : Inode → Lying = slot_at snap.geometry.inodes (content_in snap.geometry blocks) in
         let it = of_it blocks tree one is in
-        subst (λ (n : ℕ). IsFound (lies one) new.name 0 (SLOTS_PER_BLOCK * n) (Some place)) (sym next)
-        (subst (λ (wanted : List ℕ). IsFound (lies one) wanted 0 (SLOTS_PER_BLOCK * (old.blocks + 1)) (Some place))
+        subst (λ (n : ℕ). IsFound (lies one) new.name 0 (SLOTS_PER_BLOCK * n) (Some search_hit)) (sym next)
+        (subst (λ (wanted : List ℕ). IsFound (lies one) wanted 0 (SLOTS_PER_BLOCK * (old.blocks + 1)) (Some search_hit))
         (sym name)
-        (subst (λ (i : Inode). IsFound (lies i) old.name 0 (SLOTS_PER_BLOCK * (old.blocks + 1)) (Some place))
+        (subst (λ (i : Inode). IsFound (lies i) old.name 0 (SLOTS_PER_BLOCK * (old.blocks + 1)) (Some search_hit))
         (is_it blocks one is.has.over.saw is.has.there)
-        (more_some (lies inode) old.name old.blocks new.found place found (ok blocks tree old.directory it less))));
-    few = few_clear was.few behind;
-    clear = λ blocks one index seen at below.
-        subst (λ (i : Inode). IsClearAt snap blocks i index) (is_it blocks one seen at)
-        (clear_so_far behind blocks seen (λ k early. was.clear blocks inode k seen (there blocks seen) early) index
+        (more_some (lies inode) old.name old.blocks new.found search_hit found (ok blocks tree old.directory it less))));
+    few = few_valid was.few behind;
+    valid_blocks = λ blocks one index seen at below.
+        subst (λ (i : Inode). IsValidAt snap blocks i index) (is_it blocks one seen at)
+        (valid_so_far behind blocks seen (λ k early. was.valid_blocks blocks inode k seen (there blocks seen) early) index
         below);
   }
 
 -- ---- what is known in the end
 
-module _ (snap : Snap) (sought : Sought) (is : IsSought snap sought) (blocks : Image) (tree : Tree) (inode : Inode)
-    (directory : IsDirectoryOf snap blocks tree sought.directory inode) where
+module _ (snap : Snap) (cursor : SearchCursor) (is : IsSearchCursor snap cursor) (blocks : Image) (tree : Tree) (inode : Inode)
+    (directory : IsDirectoryOf snap blocks tree cursor.directory inode) where
   abbrev lying : Lying
   lying = slot_at snap.geometry.inodes (content_in snap.geometry blocks) inode
 
-  pub known_some : (place : Entry) → sought.found ≡ Some place
-      → IsFound lying sought.name 0 (SLOTS_PER_BLOCK * span_of inode) (Some place)
-  known_some place found =
+  pub known_some : (search_hit : SlotDirent) → cursor.found ≡ Some search_hit
+      → IsFound lying cursor.name 0 (SLOTS_PER_BLOCK * span_of inode) (Some search_hit)
+  known_some search_hit found =
       let within = is.within blocks inode directory.has.over.saw directory.has.there in
-      found_within lying sought.name 0 (SLOTS_PER_BLOCK * sought.blocks) (SLOTS_PER_BLOCK * span_of inode) place
-      (omega (arith, within)) (is.some blocks tree inode place directory found)
+      found_within lying cursor.name 0 (SLOTS_PER_BLOCK * cursor.blocks) (SLOTS_PER_BLOCK * span_of inode) search_hit
+      (omega (arith, within)) (is.some blocks tree inode search_hit directory found)
 
-  pub known_none : sought.found ≡ None → span_of inode ≤ sought.blocks
-      → IsFound lying sought.name 0 (SLOTS_PER_BLOCK * span_of inode) None
+  pub known_none : cursor.found ≡ None → span_of inode ≤ cursor.blocks
+      → IsFound lying cursor.name 0 (SLOTS_PER_BLOCK * span_of inode) None
   known_none found all = λ slot number low less.
       is.none blocks tree inode directory found slot number low (omega (arith, less, all))

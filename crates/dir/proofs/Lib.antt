@@ -10,6 +10,6 @@ pub mod VacantIn
 pub mod UsedByDirectory
 pub mod Grown
 pub mod Needed
-pub mod ClearBlocks
+pub mod ValidBlocks
 pub mod Looks
 pub mod SearchLemmas

@@ -58,17 +58,17 @@ module _ {A : Type 0} (f : ℕ → Option A) where
   from_range a zero x is = absurd is
   from_range a (suc n) x is = at_head a n x (λ rest. from_range (a + 1) n x rest) (f a) refl is
 
-  by_place : (a n i : ℕ) (x : A) → f i ≡ Some x
+  by_index_within : (a n i : ℕ) (x : A) → f i ≡ Some x
       → (a + 1 ≤ i → In x (filter_map f (range_with_len (a + 1) n))) → (i ≡ a) ⊎ (a + 1 ≤ i)
       → (o : Option A) → f a ≡ o → In x (cons_option o (filter_map f (range_with_len (a + 1) n)))
-  by_place a n i x is rest (inl one) None e = absurd (none_some x (sym e ∙ ap f (sym one) ∙ is))
-  by_place a n i x is rest (inl one) (Some y) e = inl (same y x (sym e ∙ ap f (sym one) ∙ is))
-  by_place a n i x is rest (inr more) None e = rest more
-  by_place a n i x is rest (inr more) (Some y) e = inr (rest more)
+  by_index_within a n i x is rest (inl one) None e = absurd (none_some x (sym e ∙ ap f (sym one) ∙ is))
+  by_index_within a n i x is rest (inl one) (Some y) e = inl (same y x (sym e ∙ ap f (sym one) ∙ is))
+  by_index_within a n i x is rest (inr more) None e = rest more
+  by_index_within a n i x is rest (inr more) (Some y) e = inr (rest more)
 
   pub in_range : (a n i : ℕ) (x : A) → a ≤ i → i < a + n → f i ≡ Some x
       → In x (filter_map f (range_with_len a n))
   in_range a zero i x low less is = absurd (omega (arith, low, less))
   in_range a (suc n) i x low less is =
-      by_place a n i x is (λ more. in_range (a + 1) n i x more (omega (arith, less)) is) (at_or_past a i low)
+      by_index_within a n i x is (λ more. in_range (a + 1) n i x more (omega (arith, less)) is) (at_or_past a i low)
       (f a) refl

@@ -2,20 +2,20 @@
 use Rattle.std.proofs.Common.{◌≡◌, ℕ, ◌<◌, ◌≤◌, inl, inr, sym, ap, ◌∙◌, List, Option, Some, None, arith}
 use Rattle.std.proofs.lemmas.Bool.{cases_lt}
 use Rattle.layout.specs.SlotForm.{number_under}
-use Rattle.procs_files.specs.declared.entry.Entry.{Entry}
-use Rattle.procs_files.specs.declared.entry.SlotName.{SlotName}
+use Rattle.procs_files.specs.declared.dirent.SlotDirent.{SlotDirent}
+use Rattle.procs_files.specs.declared.dirent.SlotName.{SlotName}
 use Rattle.dir.specs.Slots.{AreFree, IsFound, IsNext, Lying}
 
 module _ (lies other : Lying) (from end : ℕ)
     (same : (slot : ℕ) → from ≤ slot → slot < end → lies slot ≡ other slot) where
-  pub moved_found : (name : List ℕ) (found : Option Entry) → IsFound other name from end found
+  pub moved_found : (name : List ℕ) (found : Option SlotDirent) → IsFound other name from end found
       → IsFound lies name from end found
   moved_found name None none = λ slot number low less is.
       none slot number low less (ap (number_under name) (sym (same slot low less)) ∙ is)
-  moved_found name (Some place) is = (
+  moved_found name (Some search_hit) is = (
     is.0,
     is.1,
-    ap (number_under name) (same place.slot is.0 is.1) ∙ is.2,
+    ap (number_under name) (same search_hit.slot is.0 is.1) ∙ is.2,
   )
 
   free_moved : (last : ℕ) → last ≤ end → AreFree other from last → AreFree lies from last

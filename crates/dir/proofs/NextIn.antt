@@ -14,12 +14,12 @@ use Rattle.layout.specs.declared.fault.LayoutFault.{LayoutFault}
 use Rattle.layout.specs.declared.geometry.Geometry.{Geometry}
 use Rattle.layout.specs.declared.inode.Inode.{Inode}
 use Rattle.layout.specs.declared.slot.Slot.{Slot}
-use Rattle.layout.specs.Decode.{IsDirectory, directory_in, entry_in, named_in, span_of}
-use Rattle.nfs_spec.specs.Model.Node.{DirectoryEntry}
-use Rattle.nfs_types.specs.declared.entries.ListedEntry.{ListedEntry}
+use Rattle.layout.specs.Decode.{IsDirectory, directory_in, dirent_in, named_in, span_of}
+use Rattle.nfs_spec.specs.Model.Node.{DirentValue}
+use Rattle.nfs_types.specs.declared.entries.ListedItem.{ListedItem}
 use Rattle.nfs_spec.specs.declared.procedures.cookies.TheConstants.{FIRST_SLOT_COOKIE}
 use Rattle.nfs_spec.specs.Procedures.Listing.{listed_in, slots_of}
-use Rattle.procs_files.specs.declared.entry.SlotName.{SlotName}
+use Rattle.procs_files.specs.declared.dirent.SlotName.{SlotName}
 use Rattle.procs_files.specs.Heads.{listing_of}
 use Rattle.dir.specs.Slots.{IsNext, Lying, slot_at}
 use Rattle.dir.proofs.Distinct.{entries_once, found_in, found_once}
@@ -27,7 +27,7 @@ use Rattle.dir.proofs.FoundIn.{entries}
 use Rattle.dir.proofs.Members.{In, at_or_past, found_is, from_range, in_range, none_is, same}
 
 abbrev Lies : Type 0
-Lies = List ℕ × DirectoryEntry
+Lies = List ℕ × DirentValue
 
 exact : map.IsAntisymmetric (slice_cmp nat_cmp)
 exact = map.slice_cmp-IsAntisymmetric map.nat_cmp-IsAntisymmetric
@@ -41,62 +41,62 @@ itself a = grind (arith, nat_tests)
 -- ---- the entry of a slot
 
 -- what is read in a slot is an entry of it
-in_slot : (slot : ℕ) (read : Result (Option Slot) LayoutFault) (entry : Lies) → entry_in slot read ≡ Some entry
-    → entry.1.slot ≡ slot
-in_slot slot (Ok None) entry e = cc
-in_slot slot (Ok (Some one)) entry e = sym (ap (λ (x : Lies). x.1.slot) (same (
+in_slot : (slot : ℕ) (read : Result (Option Slot) LayoutFault) (dirent : Lies) → dirent_in slot read ≡ Some dirent
+    → dirent.1.slot ≡ slot
+in_slot slot (Ok None) dirent e = cc
+in_slot slot (Ok (Some one)) dirent e = sym (ap (λ (x : Lies). x.1.slot) (same (
   one.name,
   record {
     number = one.number;
     slot = slot;
   },
-) entry e))
-in_slot slot (Err fault) entry e = cc
+) dirent e))
+in_slot slot (Err fault) dirent e = cc
 
 module _ (lies : Lying) (n : ℕ) (once : map.len (map.from_entries {R = slice_cmp nat_cmp} (entries lies 0 n))
     ≡ length (entries lies 0 n)) where
-  abbrev made : map.FinMap (slice_cmp nat_cmp) DirectoryEntry
+  abbrev made : map.FinMap (slice_cmp nat_cmp) DirentValue
   made = map.from_entries {R = slice_cmp nat_cmp} (entries lies 0 n)
 
   abbrev gives : ℕ → Option Lies
-  gives slot = entry_in slot (lies slot)
+  gives slot = dirent_in slot (lies slot)
 
   -- an entry of the map is that of its slot
-  of_its_slot : (entry : Lies) → In entry (map.entries made) → gives entry.1.slot ≡ Some entry
-  of_its_slot entry is =
-      let there : map.find (slice_cmp nat_cmp) entry.0 (map.entries made) ≡ Some entry.1 =
+  of_its_slot : (dirent : Lies) → In dirent (map.entries made) → gives dirent.1.slot ≡ Some dirent
+  of_its_slot dirent is =
+      let there : map.find (slice_cmp nat_cmp) dirent.0 (map.entries made) ≡ Some dirent.1 =
       found_once nat_list_cmp_total exact (map.entries made) (entries_once nat_list_cmp_total exact made)
-      entry.0 entry.1 is in
-      let named : map.find (slice_cmp nat_cmp) entry.0 (entries lies 0 n) ≡ Some entry.1 =
-      sym (map.get-from_entries nat_list_cmp_total (entries lies 0 n) entry.0) ∙ map.get-entries made entry.0 ∙ there in
-      let at = from_range gives 0 n entry
-      (found_in nat_list_cmp_total exact (entries lies 0 n) entry.0 entry.1 named) in
-      ap gives (in_slot at.0 (lies at.0) entry at.3) ∙ at.3
+      dirent.0 dirent.1 is in
+      let named : map.find (slice_cmp nat_cmp) dirent.0 (entries lies 0 n) ≡ Some dirent.1 =
+      sym (map.get-from_entries nat_list_cmp_total (entries lies 0 n) dirent.0) ∙ map.get-entries made dirent.0 ∙ there in
+      let at = from_range gives 0 n dirent
+      (found_in nat_list_cmp_total exact (entries lies 0 n) dirent.0 dirent.1 named) in
+      ap gives (in_slot at.0 (lies at.0) dirent at.3) ∙ at.3
 
   -- each entry of the map lies in one of these slots
-  pub of_few_slots : (entry : Lies) → In entry (map.entries made) → entry.1.slot < n
-  of_few_slots entry is =
-      let there : map.find (slice_cmp nat_cmp) entry.0 (map.entries made) ≡ Some entry.1 =
+  pub of_few_slots : (dirent : Lies) → In dirent (map.entries made) → dirent.1.slot < n
+  of_few_slots dirent is =
+      let there : map.find (slice_cmp nat_cmp) dirent.0 (map.entries made) ≡ Some dirent.1 =
       found_once nat_list_cmp_total exact (map.entries made) (entries_once nat_list_cmp_total exact made)
-      entry.0 entry.1 is in
-      let named : map.find (slice_cmp nat_cmp) entry.0 (entries lies 0 n) ≡ Some entry.1 =
-      sym (map.get-from_entries nat_list_cmp_total (entries lies 0 n) entry.0) ∙ map.get-entries made entry.0 ∙ there in
-      let at = from_range gives 0 n entry
-      (found_in nat_list_cmp_total exact (entries lies 0 n) entry.0 entry.1 named) in
-      let here : entry.1.slot ≡ at.0 = in_slot at.0 (lies at.0) entry at.3 in
+      dirent.0 dirent.1 is in
+      let named : map.find (slice_cmp nat_cmp) dirent.0 (entries lies 0 n) ≡ Some dirent.1 =
+      sym (map.get-from_entries nat_list_cmp_total (entries lies 0 n) dirent.0) ∙ map.get-entries made dirent.0 ∙ there in
+      let at = from_range gives 0 n dirent
+      (found_in nat_list_cmp_total exact (entries lies 0 n) dirent.0 dirent.1 named) in
+      let here : dirent.1.slot ≡ at.0 = in_slot at.0 (lies at.0) dirent at.3 in
       let less = at.2 in omega (arith, here, less)
 
   -- the entry of a slot is one of the map's
-  of_the_map : (slot : ℕ) (entry : Lies) → slot < n → gives slot ≡ Some entry → In entry (map.entries made)
-  of_the_map slot entry less is =
-      let named = found_once nat_list_cmp_total exact (entries lies 0 n) once entry.0 entry.1
-      (in_range gives 0 n slot entry (omega arith) (omega (arith, less)) is) in
-      found_in nat_list_cmp_total exact (map.entries made) entry.0 entry.1
-      (sym (map.get-entries made entry.0)
-      ∙ map.get-from_entries nat_list_cmp_total (entries lies 0 n) entry.0 ∙ named)
+  of_the_map : (slot : ℕ) (dirent : Lies) → slot < n → gives slot ≡ Some dirent → In dirent (map.entries made)
+  of_the_map slot dirent less is =
+      let named = found_once nat_list_cmp_total exact (entries lies 0 n) once dirent.0 dirent.1
+      (in_range gives 0 n slot dirent (omega arith) (omega (arith, less)) is) in
+      found_in nat_list_cmp_total exact (map.entries made) dirent.0 dirent.1
+      (sym (map.get-entries made dirent.0)
+      ∙ map.get-from_entries nat_list_cmp_total (entries lies 0 n) dirent.0 ∙ named)
 
   abbrev test : ℕ → Lies → Bool
-  test slot entry = nat_eq entry.1.slot slot
+  test slot dirent = nat_eq dirent.1.slot slot
 
   pub in_the_slot : (slot : ℕ) → slot < n → find (test slot) (map.entries made) ≡ gives slot
   in_the_slot slot less = by_both (find (test slot) (map.entries made)) (gives slot) refl refl
@@ -104,22 +104,22 @@ module _ (lies : Lying) (n : ℕ) (once : map.len (map.from_entries {R = slice_c
       by_both : (found given : Option Lies) → find (test slot) (map.entries made) ≡ found → gives slot ≡ given
           → found ≡ given
       by_both None None f g = refl
-      by_both None (Some entry) f g =
-          let missed = none_is (test slot) (map.entries made) entry f (of_the_map slot entry less g) in
-          let here : test slot entry ≡ true =
-          ap (λ k. nat_eq k slot) (in_slot slot (lies slot) entry g) ∙ itself slot in
+      by_both None (Some dirent) f g =
+          let missed = none_is (test slot) (map.entries made) dirent f (of_the_map slot dirent less g) in
+          let here : test slot dirent ≡ true =
+          ap (λ k. nat_eq k slot) (in_slot slot (lies slot) dirent g) ∙ itself slot in
           let clash : true ≡ false = sym here ∙ missed in cc
-      by_both (Some entry) given f g =
-          let is = found_is (test slot) (map.entries made) entry f in
-          sym (of_its_slot entry is.0) ∙ ap gives (same_number entry.1.slot slot is.1) ∙ g
+      by_both (Some dirent) given f g =
+          let is = found_is (test slot) (map.entries made) dirent f in
+          sym (of_its_slot dirent is.0) ∙ ap gives (same_number dirent.1.slot slot is.1) ∙ g
 
 -- ---- the list from a slot on
 
 above : (from a : ℕ) → a < from → nat_le from a ≡ false
 above from a less = grind (arith, nat_tests)
 
-module _ (listed : ℕ → Option ListedEntry) where
-  abbrev pub from_on : ℕ → ℕ → ℕ → List ListedEntry
+module _ (listed : ℕ → Option ListedItem) where
+  abbrev pub from_on : ℕ → ℕ → ℕ → List ListedItem
   from_on from a n = filter_map listed (filter (λ slot. nat_le from slot) (range_with_len a n))
 
   -- slots before the first don't count
@@ -151,28 +151,28 @@ module _ (listed : ℕ → Option ListedEntry) where
         ∙ none_listed from (a + 1) n (λ slot one two less. none slot one (omega (arith, two)) (omega (arith, less)))
   ]
 
-  pub one_listed : (from a n first : ℕ) (entry : ListedEntry) → from ≤ first → a ≤ first → first < a + n
-      → listed first ≡ Some entry
+  pub one_listed : (from a n first : ℕ) (dirent : ListedItem) → from ≤ first → a ≤ first → first < a + n
+      → listed first ≡ Some dirent
       → ((slot : ℕ) → from ≤ slot → a ≤ slot → slot < first → listed slot ≡ None)
-      → from_on from a n ≡ entry ∷ from_on (suc first) a n
-  one_listed from a zero first entry low least less is none = absurd (omega (arith, least, less))
-  one_listed from a (suc n) first entry low least less is none = elim (at_or_past a first least) [
+      → from_on from a n ≡ dirent ∷ from_on (suc first) a n
+  one_listed from a zero first dirent low least less is none = absurd (omega (arith, least, less))
+  one_listed from a (suc n) first dirent low least less is none = elim (at_or_past a first least) [
     | inl here ↦
         let past : a < suc first = omega (arith, here) in
         counted from a n (omega (arith, here, low))
         ∙ ap (λ o. cons_option o (from_on from (a + 1) n)) (ap listed (sym here) ∙ is)
-        ∙ ap (λ l. entry ∷ l) (the_same from (suc first) (a + 1) n (omega (arith, here, low)) (omega (arith, here)))
-        ∙ ap (λ l. entry ∷ l) (sym (skipped (suc first) a n past))
+        ∙ ap (λ l. dirent ∷ l) (the_same from (suc first) (a + 1) n (omega (arith, here, low)) (omega (arith, here)))
+        ∙ ap (λ l. dirent ∷ l) (sym (skipped (suc first) a n past))
     | inr more ↦ (
-        let rest = one_listed from (a + 1) n first entry low more (omega (arith, less)) is
+        let rest = one_listed from (a + 1) n first dirent low more (omega (arith, less)) is
         (λ slot one two before. none slot one (omega (arith, two)) before) in
         let later : from_on (suc first) a (suc n) ≡ from_on (suc first) (a + 1) n =
         skipped (suc first) a n (omega (arith, least)) in
         (elim (cases_lt a from) [
-          | inl before ↦ skipped from a n before ∙ rest ∙ ap (λ l. entry ∷ l) (sym later)
+          | inl before ↦ skipped from a n before ∙ rest ∙ ap (λ l. dirent ∷ l) (sym later)
           | inr order ↦ counted from a n order
               ∙ ap (λ o. cons_option o (from_on from (a + 1) n)) (none a order (omega arith) (omega (arith, more)))
-              ∙ rest ∙ ap (λ l. entry ∷ l) (sym later)
+              ∙ rest ∙ ap (λ l. dirent ∷ l) (sym later)
         ])
         )
   ]
@@ -186,33 +186,33 @@ module _ (g : Geometry) (content : Image) (inode : Inode) (is_directory : IsDire
   abbrev all : ℕ
   all = SLOTS_PER_BLOCK * span_of inode
 
-  abbrev listed : ℕ → Option ListedEntry
+  abbrev listed : ℕ → Option ListedItem
   listed slot = listed_in (directory_in g.inodes content inode) slot
 
-  listing_at : (slot : ℕ) → Option Lies → Option ListedEntry
-  listing_at slot found = option_map (λ entry. record {
-    number = entry.1.number;
-    name = entry.0;
+  listing_at : (slot : ℕ) → Option Lies → Option ListedItem
+  listing_at slot found = option_map (λ dirent. record {
+    number = dirent.1.number;
+    name = dirent.0;
     cookie = slot + FIRST_SLOT_COOKIE;
   }) found
 
-  in_slots : (slot : ℕ) → slot < all → listed slot ≡ listing_at slot (entry_in slot (lies slot))
+  in_slots : (slot : ℕ) → slot < all → listed slot ≡ listing_at slot (dirent_in slot (lies slot))
   unfolding named_in listing_at
   in_slots slot less = ap (listing_at slot) (in_the_slot lies all is_directory.once slot less)
 
   free_slot : (slot : ℕ) → slot < all → lies slot ≡ Ok None → listed slot ≡ None
   unfolding listing_at
-  free_slot slot less is = in_slots slot less ∙ ap (λ read. listing_at slot (entry_in slot read)) is
+  free_slot slot less is = in_slots slot less ∙ ap (λ read. listing_at slot (dirent_in slot read)) is
 
   used_slot : (named : SlotName) → named.slot < all
       → lies named.slot ≡ Ok (Some (record { number = named.number; name = named.name }))
       → listed named.slot ≡ Some (listing_of named)
   unfolding listing_at
   used_slot named less is =
-      in_slots named.slot less ∙ ap (λ read. listing_at named.slot (entry_in named.slot read)) is
+      in_slots named.slot less ∙ ap (λ read. listing_at named.slot (dirent_in named.slot read)) is
 
   -- the names from a slot on
-  abbrev pub names_from : ℕ → List ListedEntry
+  abbrev pub names_from : ℕ → List ListedItem
   names_from from = filter_map listed (filter (λ slot. nat_le from slot)
       (slots_of (directory_in g.inodes content inode)))
 

@@ -105,10 +105,10 @@ module _ (snap : Snap) (blocks : Image) (tree : Tree) (file : ℕ) (inode : Inod
   slot_there number index slot block less here block_is low high =
       let fits = count in
       let long = length-take-le (span_of inode) numbers fits in
-      let place : SLOT_BYTES * slot ≡ BLOCK_BYTES * index + SLOT_BYTES * (slot - SLOTS_PER_BLOCK * index) =
+      let offsets_agree : SLOT_BYTES * slot ≡ BLOCK_BYTES * index + SLOT_BYTES * (slot - SLOTS_PER_BLOCK * index) =
       omega (arith, low) in
       ap (λ k. read_slot g.inodes (take SLOT_BYTES (drop k
-      (flat_map (content_of content) (take (span_of inode) numbers))))) place
+      (flat_map (content_of content) (take (span_of inode) numbers))))) offsets_agree
       ∙ ap (read_slot g.inodes) (pieces.in_block content
       (pieces.long_content snap blocks tree file inode is.has) (take (span_of inode) numbers) index
       (SLOT_BYTES * (slot - SLOTS_PER_BLOCK * index)) SLOT_BYTES (omega (arith, long, less))

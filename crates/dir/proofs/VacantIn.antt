@@ -14,7 +14,7 @@ use Rattle.layout.specs.declared.geometry.Geometry.{Geometry}
 use Rattle.layout.specs.declared.inode.Inode.{Inode}
 use Rattle.layout.specs.declared.slot.Slot.{Slot}
 use Rattle.layout.specs.declared.slot.TheConstants as slots
-use Rattle.layout.specs.Decode.{IsDirectory, directory_in, entries_in, entry_in, named_in, span_of}
+use Rattle.layout.specs.Decode.{IsDirectory, directory_in, entries_in, dirent_in, named_in, span_of}
 use Rattle.layout.specs.Fields.{four_at, is_zeros}
 use Rattle.layout.specs.SlotForm.{is_sound_slot, read_slot, slot_of}
 use Rattle.layout.proofs.Respelled.{all_zeros}
@@ -24,7 +24,7 @@ use Rattle.dir.specs.Slots.{Lying, slot_at}
 use Rattle.dir.specs.Vacant.{IsFirstFree, NoneFree, is_free}
 use Rattle.dir.proofs.Members.{at_or_past, found_is}
 use Rattle.dir.proofs.NextIn.{in_the_slot, of_few_slots}
-use Rattle.nfs_spec.specs.Model.Node.{DirectoryEntry}
+use Rattle.nfs_spec.specs.Model.Node.{DirentValue}
 
 -- ---- the bytes of a slot
 
@@ -81,7 +81,7 @@ module _ (p : ℕ → Bool) where
 -- ---- of a directory
 
 free_read_as : (slot : ℕ) (read : Result (Option Slot) LayoutFault) → IsOk read
-    → not (is_some (entry_in slot read)) ≡ is_free read
+    → not (is_some (dirent_in slot read)) ≡ is_free read
 free_read_as slot (Ok None) ok = refl
 free_read_as slot (Ok (Some one)) ok = refl
 free_read_as slot (Err fault) ok = let clash : false ≡ true = ok in cc
@@ -101,8 +101,8 @@ module _ (g : Geometry) (content : Image) (inode : Inode) (is_directory : IsDire
   abbrev vacant : ℕ → Bool
   vacant slot = not (is_taken_slot (directory_in g.inodes content inode) slot)
 
-  abbrev lies_in : ℕ → List ℕ × DirectoryEntry → Bool
-  lies_in slot entry = nat_eq entry.1.slot slot
+  abbrev lies_in : ℕ → List ℕ × DirentValue → Bool
+  lies_in slot dirent = nat_eq dirent.1.slot slot
 
   pub as_read : (slot : ℕ) → slot < all → vacant slot ≡ is_free (lies slot)
   unfolding named_in
@@ -117,13 +117,13 @@ module _ (g : Geometry) (content : Image) (inode : Inode) (is_directory : IsDire
       ap not (any_found (lies_in slot) (map.entries (entries_in g.inodes content inode))
       ∙ ap is_some (by_found (find (lies_in slot) (map.entries (entries_in g.inodes content inode))) refl))
     where
-      by_found : (found : Option (List ℕ × DirectoryEntry))
+      by_found : (found : Option (List ℕ × DirentValue))
           → find (lies_in slot) (map.entries (entries_in g.inodes content inode)) ≡ found → found ≡ None
       by_found None e = refl
-      by_found (Some entry) e =
-          let is = found_is (lies_in slot) (map.entries (entries_in g.inodes content inode)) entry e in
-          let less = of_few_slots lies all is_directory.once entry is.0 in
-          let here = same_number entry.1.slot slot is.1 in
+      by_found (Some dirent) e =
+          let is = found_is (lies_in slot) (map.entries (entries_in g.inodes content inode)) dirent e in
+          let less = of_few_slots lies all is_directory.once dirent is.0 in
+          let here = same_number dirent.1.slot slot is.1 in
           absurd (omega (arith, less, here, past))
 
   none_before : (end : ℕ) → end ≤ all → NoneFree lies 0 end → (k : ℕ) → 0 ≤ k → k < end → vacant k ≡ false

@@ -8,10 +8,10 @@ use Rattle.layout.specs.declared.inode.Inode.{Inode}
 use Rattle.layout.specs.Decode.{span_of}
 use Rattle.layout.specs.Parts.{content_in}
 use Rattle.inode.specs.declared.snap.Snap.{Snap}
-use Rattle.inode.specs.declared.stop.Stop.{Stop}
-use Rattle.inode.specs.Asked.{IsNeededAt, IsStopFor}
-use Rattle.inode.specs.Over.{IsPause, MayStop}
-use Rattle.dir.specs.declared.sought.Sought.{Sought}
+use Rattle.inode.specs.declared.suspend.Suspend.{Suspend}
+use Rattle.inode.specs.Asked.{IsNeededAt, IsSuspendFor}
+use Rattle.inode.specs.Over.{IsResumable, MaySuspend}
+use Rattle.dir.specs.declared.cursor.SearchCursor.{SearchCursor}
 use Rattle.dir.specs.Slots.{AreFree, IsDirectoryOf, Lying, NoneHas, slot_at}
 use Rattle.dir.specs.Vacant.{NoneFree}
 
@@ -21,7 +21,7 @@ pub record IsNeededBehind (known : ℕ → Lying → Type 0) (snap : Snap) (inod
   where
     pub index : ℕ
     pub within : index < span_of inode
-    pub looked : (blocks : Image) (tree : Tree) (file : ℕ) → IsDirectoryOf snap blocks tree file inode
+    pub scanned : (blocks : Image) (tree : Tree) (file : ℕ) → IsDirectoryOf snap blocks tree file inode
         → known index (slot_at snap.geometry.inodes (content_in snap.geometry blocks) inode)
     pub needed : IsNeededAt snap inode index addr
 
@@ -38,20 +38,20 @@ abbrev pub TakenBefore : ℕ → Lying → Type 0
 TakenBefore index lies = NoneFree lies 0 (SLOTS_PER_BLOCK * index)
 
 -- the name is still looked for, and the address is that of the first block that wasn't looked through for it
-pub record IsNextSought (snap : Snap) (inode : Inode) (sought : Sought) (addr : Addr) : Type 0 where
-  pub none : sought.found ≡ None
-  pub within : sought.blocks < span_of inode
-  pub needed : IsNeededAt snap inode sought.blocks addr
+pub record IsAtCursor (snap : Snap) (inode : Inode) (cursor : SearchCursor) (addr : Addr) : Type 0 where
+  pub none : cursor.found ≡ None
+  pub within : cursor.blocks < span_of inode
+  pub needed : IsNeededAt snap inode cursor.blocks addr
 
--- the same, or a search that is begun anew asks for it
-pub data IsSoughtOrAnew (snap : Snap) (inode : Inode) (sought : Sought) (addr : Addr) : Type 0 where
-  next : IsNextSought snap inode sought addr → IsSoughtOrAnew snap inode sought addr
-  anew : IsNeededBehind (LackBefore sought.name) snap inode addr → IsSoughtOrAnew snap inode sought addr
+-- the same, or a search that is restarted asks for it
+pub data IsAtCursorOrRestarted (snap : Snap) (inode : Inode) (cursor : SearchCursor) (addr : Addr) : Type 0 where
+  next : IsAtCursor snap inode cursor addr → IsAtCursorOrRestarted snap inode cursor addr
+  restarted : IsNeededBehind (LackBefore cursor.name) snap inode addr → IsAtCursorOrRestarted snap inode cursor addr
 
 -- where the block at an index is read, the reading stops
 pub record StopsAt (snap : Snap) (inode : Inode) (index : ℕ) : Type 0 where
-  pub stop : Stop
-  pub may : MayStop snap stop
-  pub asks : IsStopFor (IsNeededAt snap inode index) stop
-  pub pause : (blocks : Image) (tree : Tree) (file : ℕ) → IsDirectoryOf snap blocks tree file inode
-      → index < span_of inode → IsPause stop
+  pub suspend : Suspend
+  pub may : MaySuspend snap suspend
+  pub asks : IsSuspendFor (IsNeededAt snap inode index) suspend
+  pub resumable : (blocks : Image) (tree : Tree) (file : ℕ) → IsDirectoryOf snap blocks tree file inode
+      → index < span_of inode → IsResumable suspend

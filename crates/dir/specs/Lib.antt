@@ -1,5 +1,5 @@
 pub mod Slots
 pub mod Vacant
-pub mod Sought
+pub mod SearchCursor
 pub mod Asked
 pub mod Search

@@ -14,8 +14,8 @@ use Rattle.layout.specs.declared.inode.InodeKind.TheVariants as kinds
 use Rattle.nfs_spec.specs.Model.Tree.{Tree}
 use Rattle.inode.specs.declared.snap.Snap.{Snap}
 use Rattle.inode.specs.Over.{HasInode}
-use Rattle.procs_files.specs.declared.entry.SlotName.{SlotName}
-use Rattle.procs_files.specs.declared.entry.Entry.{Entry}
+use Rattle.procs_files.specs.declared.dirent.SlotName.{SlotName}
+use Rattle.procs_files.specs.declared.dirent.SlotDirent.{SlotDirent}
 
 -- the number's file in the blocks is a directory with this inode
 pub record IsDirectoryOf (snap : Snap) (blocks : Image) (tree : Tree) (file : ℕ) (inode : Inode) : Type 0 where
@@ -24,8 +24,8 @@ pub record IsDirectoryOf (snap : Snap) (blocks : Image) (tree : Tree) (file : �
 
 -- a directory has the block of this number at an index: by its inode, or by its indirect block, which is a whole one
 pub data HasBlockAt (blocks : Image) (inode : Inode) (index number : ℕ) : Type 0 where
-  near : index < DIRECT_INDEXES → number ≡ get_or inode.direct index 0 → HasBlockAt blocks inode index number
-  far : DIRECT_INDEXES ≤ index → length (blocks inode.indirect) ≡ BLOCK_BYTES
+  direct_part : index < DIRECT_INDEXES → number ≡ get_or inode.direct index 0 → HasBlockAt blocks inode index number
+  indirect_part : DIRECT_INDEXES ≤ index → length (blocks inode.indirect) ≡ BLOCK_BYTES
       → number ≡ get_or (numbers_at INDIRECT_INDEXES 0 (blocks inode.indirect)) (index - DIRECT_INDEXES) 0
       → HasBlockAt blocks inode index number
 
@@ -48,10 +48,10 @@ NoneHas lies name from end =
     (slot number : ℕ) → from ≤ slot → slot < end → number_under name (lies slot) ≡ Ok (Some number) → ⊥
 
 -- one of these slots that has the name, or none has
-abbrev pub IsFound : Lying → List ℕ → ℕ → ℕ → Option Entry → Type 0
+abbrev pub IsFound : Lying → List ℕ → ℕ → ℕ → Option SlotDirent → Type 0
 IsFound lies name from end None = NoneHas lies name from end
-IsFound lies name from end (Some place) =
-    (from ≤ place.slot) × (place.slot < end) × (number_under name (lies place.slot) ≡ Ok (Some place.number))
+IsFound lies name from end (Some search_hit) =
+    (from ≤ search_hit.slot) × (search_hit.slot < end) × (number_under name (lies search_hit.slot) ≡ Ok (Some search_hit.number))
 
 -- each of these slots is free
 abbrev pub AreFree : Lying → ℕ → ℕ → Type 0

@@ -2,32 +2,32 @@
 ghost use Rattle.std.specs.Prelude.{◌≡◌, ◌+◌, ◌*◌, ◌^◌, ◌<◌, ◌≤◌, ℕ, true, length, IfOk, IfErr};
 ghost use Rattle.base.specs.declared.TheConstants.{BLOCK_BYTES, MOST_SPAN, SLOTS_PER_BLOCK};
 ghost use Rattle.layout.specs.declared.slot.TheConstants.{SLOT_BYTES};
-ghost use Rattle.layout.specs.SlotForm.{IsLook, read_slot};
+ghost use Rattle.layout.specs.SlotForm.{IsProbe, read_slot};
 ghost use Rattle.dir.specs.Slots.{HasFault, IsFound, IsNext, NoneRefused, block_slot};
 
 use base::SLOTS_PER_BLOCK;
-use layout::{LayoutFault, Look, NamePattern, Slot};
-use procs_files::{Entry, SlotName};
+use layout::{LayoutFault, NamePattern, Slot, SlotProbe};
+use procs_files::{SlotDirent, SlotName};
 use std::alloc::{AllocError, Global};
 
 /// What a look through a block for a name has found: the slot that has it, if one does; and, of the slots before
 /// `past`, behind which none was looked at, whether none is refused.
 #[derive(Drop)]
-pub(crate) struct Looked {
-    pub found: Option<Entry>,
+pub(crate) struct BlockScan {
+    pub found: Option<SlotDirent>,
     pub past: u32,
-    pub clear: bool,
+    pub is_valid: bool,
 }
 
 /// Looks at a slot for a name, with which its own is compared, and counts that it is. Nothing else compares names.
-pub fn compare(inodes: u32, slot: &[u8], name: &NamePattern, compared: &mut u64) -> Look
+pub fn compare(inodes: u32, slot: &[u8], name: &NamePattern, compared: &mut u64) -> SlotProbe
     requires len { length slot.now ≡ SLOT_BYTES }
-    requires room { compared.old + 1 < 2 ^ 64 }
-    ensures look { IsLook name.now (read_slot inodes slot.now) result }
+    requires no_overflow { compared.old + 1 < 2 ^ 64 }
+    ensures probe { IsProbe name.now (read_slot inodes slot.now) result }
     ensures one { compared.new ≡ compared.old + 1 }
 {
     *compared += 1;
-    Slot::look(inodes, slot, name)
+    Slot::probe(inodes, slot, name)
 }
 
 /// A slot of a block that has a name, where the block's slots are numbered from one on. One that the layout refuses
@@ -38,49 +38,49 @@ pub(crate) fn find_in_block(
     first: u32,
     name: &[u8],
     compared: &mut u64,
-) -> Looked
+) -> BlockScan
     requires len { length block.now ≡ BLOCK_BYTES }
     requires small { first + SLOTS_PER_BLOCK ≤ SLOTS_PER_BLOCK * MOST_SPAN }
-    requires room { compared.old + SLOTS_PER_BLOCK < 2 ^ 64 }
+    requires no_overflow { compared.old + SLOTS_PER_BLOCK < 2 ^ 64 }
     ensures found { IsFound (block_slot inodes first block.now) name.now first (first + SLOTS_PER_BLOCK) result.found }
-    ensures clear { result.clear ≡ true → NoneRefused (block_slot inodes first block.now) first result.past }
+    ensures is_valid { result.is_valid ≡ true → NoneRefused (block_slot inodes first block.now) first result.past }
     ensures past { first ≤ result.past }
     ensures count { compared.new ≤ compared.old + SLOTS_PER_BLOCK }
 {
     let pattern = match NamePattern::of(name) {
         Some(pattern) => pattern,
         None => {
-            return Looked {
+            return BlockScan {
                 found: None,
                 past: first,
-                clear: true,
+                is_valid: true,
             };
         }
     };
-    let mut clear = true;
+    let mut is_valid = true;
     'slots: for slot in first..first + SLOTS_PER_BLOCK {
         let bytes = Slot::bytes_in(block, slot - first);
         match compare(inodes, bytes, &pattern, compared) {
-            Look::Named(number) => {
-                return Looked {
-                    found: Some(Entry { number, slot }),
+            SlotProbe::Named(number) => {
+                return BlockScan {
+                    found: Some(SlotDirent { number, slot }),
                     past: slot + 1,
-                    clear,
+                    is_valid,
                 };
             }
-            Look::Refused => clear = false,
-            Look::Other => {}
+            SlotProbe::Refused => is_valid = false,
+            SlotProbe::Other => {}
         }
     }
-    Looked {
+    BlockScan {
         found: None,
         past: first + SLOTS_PER_BLOCK,
-        clear,
+        is_valid,
     }
 }
 
 /// Whether the layout refuses no slot of a block from one on.
-pub(crate) fn is_clear_from(inodes: u32, block: &[u8], first: u32, from: u32) -> bool
+pub(crate) fn is_valid_from(inodes: u32, block: &[u8], first: u32, from: u32) -> bool
     requires len { length block.now ≡ BLOCK_BYTES }
     requires small { first + SLOTS_PER_BLOCK ≤ SLOTS_PER_BLOCK * MOST_SPAN }
     requires from { first ≤ from }

@@ -2,19 +2,19 @@
 #![tactic(auto)]
 
 mod block;
+mod cursor;
 mod empty;
-mod finding;
+mod lookup;
 mod next;
 mod search;
-mod sought;
 mod span;
 mod vacant;
 
 pub use block::compare;
+pub use cursor::{SearchCursor, find_known, go_on};
 pub use empty::is_empty;
-pub use finding::find;
+pub use lookup::find;
 pub use next::next_name;
-pub use search::{Names, first_place, second_place};
-pub use sought::{Sought, find_known, go_on};
+pub use search::{Names, first_dentry, second_dentry};
 pub use span::used_of_directory;
 pub use vacant::free_slot;

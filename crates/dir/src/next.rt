@@ -5,15 +5,15 @@ ghost use Rattle.disk.specs.Crash.{Image};
 ghost use Rattle.nfs_spec.specs.Model.Tree.{Tree};
 ghost use Rattle.layout.specs.Decode.{span_of};
 ghost use Rattle.layout.specs.Parts.{content_in};
-ghost use Rattle.inode.specs.Over.{IsPause, MayStop};
+ghost use Rattle.inode.specs.Over.{IsResumable, MaySuspend};
 ghost use Rattle.dir.specs.Slots.{IsDirectoryOf, IsNext, slot_at};
-ghost use Rattle.inode.specs.Asked.{IsNeededAt, MayStopFor};
+ghost use Rattle.inode.specs.Asked.{IsNeededAt, MaySuspendFor};
 ghost use Rattle.dir.specs.Asked.{FreeBefore, IsNeededBehind};
 
 use crate::block::next_in_block;
 use crate::span::{directory_block, span_of};
 use base::SLOTS_PER_BLOCK;
-use inode::{Snap, Stop};
+use inode::{Snap, Suspend};
 use layout::Inode;
 use procs_files::SlotName;
 use std::alloc::Global;
@@ -34,7 +34,7 @@ fn next_at(
     inode: &Inode,
     index: usize,
     from: u32,
-) -> Result<Option<SlotName>, Stop>
+) -> Result<Option<SlotName>, Suspend>
     requires index { index < MOST_SPAN }
     requires from { SLOTS_PER_BLOCK * index ≤ from }
     ensures ok { IfOk result (λ found. (blocks : Image) (tree : Tree) (file : ℕ)
@@ -42,10 +42,10 @@ fn next_at(
         → IsNext (slot_at snap.now.geometry.inodes (content_in snap.now.geometry blocks) inode.now) from
         (SLOTS_PER_BLOCK * index + SLOTS_PER_BLOCK) found) }
     ensures past { IfOk result (λ found. IfSome found (λ named. from ≤ named.slot)) }
-    ensures err { IfErr result (λ stop. MayStop snap.now stop) }
-    ensures asks { IfErr result (λ stop. MayStopFor (IsNeededAt snap.now inode.now index) stop) }
-    ensures pause { IfErr result (λ stop. (blocks : Image) (tree : Tree) (file : ℕ)
-        → IsDirectoryOf snap.now blocks tree file inode.now → index < span_of inode.now → IsPause stop) }
+    ensures err { IfErr result (λ suspend. MaySuspend snap.now suspend) }
+    ensures asks { IfErr result (λ suspend. MaySuspendFor (IsNeededAt snap.now inode.now index) suspend) }
+    ensures resumable { IfErr result (λ suspend. (blocks : Image) (tree : Tree) (file : ℕ)
+        → IsDirectoryOf snap.now blocks tree file inode.now → index < span_of inode.now → IsResumable suspend) }
 {
     let block = directory_block(snap, inode, index)?;
     match next_in_block(
@@ -56,7 +56,7 @@ fn next_at(
         from,
     )? {
         Ok(found) => Ok(found),
-        Err(_) => Err(Stop::Io),
+        Err(_) => Err(Suspend::Io),
     }
 }
 
@@ -67,7 +67,7 @@ fn next_below(
     inode: &Inode,
     span: usize,
     from: u32,
-) -> Result<Option<SlotName>, Stop>
+) -> Result<Option<SlotName>, Suspend>
     requires few { span ≤ MOST_SPAN }
     requires spans { span ≡ span_of inode.now }
     ensures ok { IfOk result (λ found. (blocks : Image) (tree : Tree) (file : ℕ)
@@ -75,10 +75,10 @@ fn next_below(
         → IsNext (slot_at snap.now.geometry.inodes (content_in snap.now.geometry blocks) inode.now) from
         (SLOTS_PER_BLOCK * span) found) }
     ensures past { IfOk result (λ found. IfSome found (λ named. from ≤ named.slot)) }
-    ensures err { IfErr result (λ stop. MayStop snap.now stop) }
-    ensures asks { IfErr result (λ stop. MayStopFor (IsNeededBehind (FreeBefore from) snap.now inode.now) stop) }
-    ensures pause { IfErr result (λ stop. (blocks : Image) (tree : Tree) (file : ℕ)
-        → IsDirectoryOf snap.now blocks tree file inode.now → IsPause stop) }
+    ensures err { IfErr result (λ suspend. MaySuspend snap.now suspend) }
+    ensures asks { IfErr result (λ suspend. MaySuspendFor (IsNeededBehind (FreeBefore from) snap.now inode.now) suspend) }
+    ensures resumable { IfErr result (λ suspend. (blocks : Image) (tree : Tree) (file : ℕ)
+        → IsDirectoryOf snap.now blocks tree file inode.now → IsResumable suspend) }
 {
     'indexes: for index in (from / SLOTS_PER_BLOCK) as usize..span {
         let start = later(from, SLOTS_PER_BLOCK * index as u32);
@@ -96,19 +96,19 @@ pub fn next_name(
     snap: &Snap,
     inode: &Inode,
     from: u64,
-) -> Result<Option<SlotName>, Stop>
+) -> Result<Option<SlotName>, Suspend>
     ensures ok { IfOk result (λ found. (blocks : Image) (tree : Tree) (file : ℕ)
         → IsDirectoryOf snap.now blocks tree file inode.now
         → IsNext (slot_at snap.now.geometry.inodes (content_in snap.now.geometry blocks) inode.now) from
         (SLOTS_PER_BLOCK * span_of inode.now) found) }
     ensures past { IfOk result (λ found. IfSome found (λ named. from ≤ named.slot)) }
-    ensures err { IfErr result (λ stop. MayStop snap.now stop) }
-    ensures asks { IfErr result (λ stop. MayStopFor (IsNeededBehind (FreeBefore from) snap.now inode.now) stop) }
-    ensures pause { IfErr result (λ stop. (blocks : Image) (tree : Tree) (file : ℕ)
-        → IsDirectoryOf snap.now blocks tree file inode.now → IsPause stop) }
+    ensures err { IfErr result (λ suspend. MaySuspend snap.now suspend) }
+    ensures asks { IfErr result (λ suspend. MaySuspendFor (IsNeededBehind (FreeBefore from) snap.now inode.now) suspend) }
+    ensures resumable { IfErr result (λ suspend. (blocks : Image) (tree : Tree) (file : ℕ)
+        → IsDirectoryOf snap.now blocks tree file inode.now → IsResumable suspend) }
 {
     let Some(span) = span_of(inode) else {
-        return Err(Stop::Io);
+        return Err(Suspend::Io);
     };
     if from >= SLOTS_PER_BLOCK as u64 * span as u64 {
         return Ok(None);

@@ -1,9 +1,9 @@
 //! The names of a call, looked for in their directories as far as blocks of these were read.
 
 mod begun;
-mod names;
+mod call_names;
+mod name_search;
 mod places;
-mod searching;
 
-pub use names::Names;
-pub use places::{first_place, second_place};
+pub use call_names::Names;
+pub use places::{first_dentry, second_dentry};

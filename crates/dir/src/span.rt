@@ -6,14 +6,14 @@ ghost use Rattle.nfs_spec.specs.Model.Tree.{Tree};
 ghost use Rattle.layout.specs.Decode.{span_of};
 ghost use Rattle.layout.specs.Parts.{content_in};
 ghost use Rattle.inode.specs.declared.snap.Snap.{Snap};
-ghost use Rattle.inode.specs.Over.{IsPause, MayStop};
+ghost use Rattle.inode.specs.Over.{IsResumable, MaySuspend};
 ghost use Rattle.inode.specs.Shown.{IsShown, body_in};
 ghost use Rattle.inode.specs.Read.{Saw};
 ghost use Rattle.dir.specs.Slots.{HasBlockAt, IsDirectoryOf, block_slot, slot_at};
-ghost use Rattle.inode.specs.Asked.{IsNeededAt, IsReadAt, IsStopFor};
+ghost use Rattle.inode.specs.Asked.{IsNeededAt, IsReadAt, IsSuspendFor};
 
 use base::{BLOCK_BYTES, DIRECT_INDEXES, LARGEST_DIRECTORY};
-use inode::{Snap, Stop, block_number, data_block};
+use inode::{Snap, Suspend, block_number, data_block};
 use layout::Inode;
 
 /// How many blocks a directory spans: None where it is larger than one may be.
@@ -62,7 +62,7 @@ pub(crate) fn directory_block<'a>(
     snap: &'a Snap,
     inode: &Inode,
     index: usize,
-) -> Result<&'a [u8], Stop>
+) -> Result<&'a [u8], Suspend>
     requires { index < MOST_SPAN }
     ensures len { IfOk result (λ block. length block.now ≡ BLOCK_BYTES) }
     ensures ok { IfOk result (λ block. (blocks : Image) (tree : Tree) (file : ℕ)
@@ -73,15 +73,15 @@ pub(crate) fn directory_block<'a>(
     ensures is { IfOk result (λ block. (blocks : Image) (number : ℕ) → Saw blocks snap.now
         → HasBlockAt blocks inode.now index number → length (blocks number) ≡ BLOCK_BYTES
         → block.now ≡ blocks number) }
-    ensures err { IfErr result (λ stop. MayStop snap.now stop) }
-    ensures asks { IfErr result (λ stop. IsStopFor (IsNeededAt snap.now inode.now index) stop) }
+    ensures err { IfErr result (λ suspend. MaySuspend snap.now suspend) }
+    ensures asks { IfErr result (λ suspend. IsSuspendFor (IsNeededAt snap.now inode.now index) suspend) }
     ensures read { IfOk result (λ block. IsReadAt snap.now inode.now index) }
-    ensures pause { IfErr result (λ stop. (blocks : Image) (tree : Tree) (file : ℕ)
-        → IsDirectoryOf snap.now blocks tree file inode.now → index < span_of inode.now → IsPause stop) }
+    ensures resumable { IfErr result (λ suspend. (blocks : Image) (tree : Tree) (file : ℕ)
+        → IsDirectoryOf snap.now blocks tree file inode.now → index < span_of inode.now → IsResumable suspend) }
 {
     let number = block_number(snap, inode, index)?;
     if number == 0 {
-        return Err(Stop::Io);
+        return Err(Suspend::Io);
     }
     data_block(snap, number)
 }

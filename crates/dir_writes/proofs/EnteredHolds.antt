@@ -6,14 +6,14 @@ use Rattle.std.specs.FinMap.{find, from_entries, get, get-from_entries, insert}
 use Rattle.std.specs.Ordering.{nat_cmp}
 use Rattle.base.specs.declared.TheConstants.{SLOTS_PER_BLOCK}
 use Rattle.disk.specs.Crash.{Image}
-use Rattle.nfs_spec.specs.Model.Node.{Body, DirectoryEntry, Entries, Node}
+use Rattle.nfs_spec.specs.Model.Node.{Body, DirentValue, Entries, Node}
 use Rattle.nfs_spec.specs.Model.Node as nodes
 use Rattle.nfs_spec.specs.Model.Tree.{Tree, node_at, with_node}
 use Rattle.nfs_spec.specs.Model.Tree as trees
-use Rattle.nfs_spec.specs.Procedures.Changes.{with_entry}
-use Rattle.nfs_spec.specs.Procedures.Places.{entry_at, is_taken_slot}
-use Rattle.procs_files.specs.Changing.{CanEnter, IsOwnSlot}
-use Rattle.procs_files.specs.declared.entry.Entry.{Entry}
+use Rattle.nfs_spec.specs.Procedures.Changes.{with_dirent}
+use Rattle.nfs_spec.specs.Procedures.Places.{dirent_at, is_taken_slot}
+use Rattle.procs_files.specs.Writable.{CanEnter, IsOwnSlot}
+use Rattle.procs_files.specs.declared.dirent.SlotDirent.{SlotDirent}
 use Rattle.layout.specs.declared.fault.LayoutFault.{LayoutFault}
 use Rattle.layout.specs.declared.geometry.Geometry.{Geometry}
 use Rattle.layout.specs.declared.inode.Inode.{Inode}
@@ -32,7 +32,7 @@ use Rattle.dir.proofs.FoundIn.{entries}
 use Rattle.dir.proofs.SlotBlocks.{none_refused, small}
 use Rattle.dir.proofs.VacantIn.{as_read}
 use Rattle.dir_writes.specs.Clearing.{slot_block}
-use Rattle.dir_writes.specs.Slotting.{slotted_block}
+use Rattle.dir_writes.specs.SlotWrites.{slotted_block}
 use Rattle.dir_writes.proofs.EnteredName.{entered, gains, replaced, replaced_once}
 use Rattle.dir_writes.proofs.Lost.{IsOnce}
 use Rattle.dir_writes.proofs.Places.{lies_at}
@@ -74,8 +74,8 @@ module _ (snap : Snap) (old : Image) (tree : Tree) (n : ℕ) (inode : Inode) (na
   abbrev slot : Slot
   slot = record { number = number; name = name }
 
-  abbrev entry : DirectoryEntry
-  entry = record { number = number; slot = s }
+  abbrev dirent : DirentValue
+  dirent = record { number = number; slot = s }
 
   abbrev bytes : List ℕ
   bytes = used_bytes slot
@@ -116,9 +116,9 @@ module _ (snap : Snap) (old : Image) (tree : Tree) (n : ℕ) (inode : Inode) (na
   -- what the slots are then
   abbrev Enters : Type 0
   Enters = IsOnce (entries (relaid lies s (Some slot)) 0 end)
-      × (from_entries {R = slice_cmp nat_cmp} (entries (relaid lies s (Some slot)) 0 end) ≡ insert held name entry)
+      × (from_entries {R = slice_cmp nat_cmp} (entries (relaid lies s (Some slot)) 0 end) ≡ insert held name dirent)
 
-  new_name : entry_at (directory_in g.inodes content inode) name ≡ None
+  new_name : dirent_at (directory_in g.inodes content inode) name ≡ None
       → is_taken_slot (directory_in g.inodes content inode) s ≡ false → Enters
   new_name none untaken =
       let few = small snap old tree n inode is in
@@ -131,48 +131,48 @@ module _ (snap : Snap) (old : Image) (tree : Tree) (n : ℕ) (inode : Inode) (na
       ∙ ap (λ (m : Entries). get m name) (sym made) ∙ none in (
         (gains lies name s number free 0 end (omega arith) (omega (arith, less)) once absent).0,
         entered lies name s number free end less once absent
-            ∙ ap (λ (m : Entries). insert m name entry) (sym made),
+            ∙ ap (λ (m : Entries). insert m name dirent) (sym made),
       )
 
-  old_name : (one : DirectoryEntry) → entry_at (directory_in g.inodes content inode) name ≡ Some one
+  old_name : (one : DirentValue) → dirent_at (directory_in g.inodes content inode) name ≡ Some one
       → one.slot ≡ s → Enters
   old_name one there here =
-      let place : Entry = record { number = one.number; slot = one.slot } in
-      let lying = lies_at g.inodes content inode name place (sym there) in
+      let search_hit : SlotDirent = record { number = one.number; slot = one.slot } in
+      let lying = lies_at g.inodes content inode name search_hit (sym there) in
       let under : number_under name (lies s) ≡ Ok (Some one.number) =
       ap (λ k. number_under name (lies k)) (sym here) ∙ lying.is in (
         replaced_once lies name s number one.number end less under once,
         replaced lies name s number one.number end less under once
-            ∙ ap (λ (m : Entries). insert m name entry) (sym made),
+            ∙ ap (λ (m : Entries). insert m name dirent) (sym made),
       )
 
-  by_own : IsOwnSlot (directory_in g.inodes content inode) name entry → Enters
+  by_own : IsOwnSlot (directory_in g.inodes content inode) name dirent → Enters
   by_own (inl new) = new_name new.0 new.1
   by_own (inr old) = old_name old.0 old.1 old.2
 
   enters : Enters
-  enters = by_own (subst (λ (b : Body). IsOwnSlot b name entry) was_body can.own)
+  enters = by_own (subst (λ (b : Body). IsOwnSlot b name dirent) was_body can.own)
 
   abbrev new_body : Body
-  new_body = nodes.Directory (insert held name entry) (span_of inode) inode.parent
+  new_body = nodes.Directory (insert held name dirent) (span_of inode) inode.parent
 
-  as_entered : new_body ≡ with_entry name entry node.body
+  as_entered : new_body ≡ with_dirent name dirent node.body
   as_entered =
-      ap (λ k. nodes.Directory (insert held name entry) k inode.parent) wide
-      ∙ ap (with_entry name entry) (sym was_body)
+      ap (λ k. nodes.Directory (insert held name dirent) k inode.parent) wide
+      ∙ ap (with_dirent name dirent) (sym was_body)
     where
       wide : span_of inode ≡ max (span_of inode) (suc (s / SLOTS_PER_BLOCK))
       wide = omega (arith, less)
 
   pub entered_holds : (last : Image)
       → last ≡ with_bytes old (slot_block content inode s) 0 (slotted_block content inode s bytes)
-      → Holds g last (with_node tree n (record node { body = with_entry name entry node.body }))
+      → Holds g last (with_node tree n (record node { body = with_dirent name dirent node.body }))
   entered_holds last written =
       subst (λ (k : Node). Holds g last (with_node tree n k))
       (slots.slot_file snap old tree n inode s bytes (Some slot) count (used_are slot can.lawful.bytes) reads is less
       node was new_body ∙ ap (λ (b : Body). record node { body = b }) as_entered)
       (slots.slot_holds snap old tree n inode s bytes (Some slot) count (used_are slot can.lawful.bytes) reads is less
-      (insert held name entry) enters.0 enters.1 last written)
+      (insert held name dirent) enters.0 enters.1 last written)
 
   pub entered_inode : (last : Image)
       → last ≡ with_bytes old (slot_block content inode s) 0 (slotted_block content inode s bytes)

@@ -9,10 +9,10 @@ use Rattle.std.specs.Ordering.{eq_by_cmp, nat_cmp}
 use Rattle.std.proofs.lemmas.Bool.{eq-eqb}
 use Rattle.layout.specs.declared.fault.LayoutFault.{LayoutFault}
 use Rattle.layout.specs.declared.slot.Slot.{Slot}
-use Rattle.layout.specs.Decode.{entry_in}
+use Rattle.layout.specs.Decode.{dirent_in}
 use Rattle.layout.specs.SlotForm.{number_under}
 use Rattle.layout.proofs.Written.{not_same}
-use Rattle.nfs_spec.specs.Model.Node.{DirectoryEntry, Entries}
+use Rattle.nfs_spec.specs.Model.Node.{DirentValue, Entries}
 use Rattle.dir.specs.Slots.{Lying}
 use Rattle.dir.proofs.Distinct.{first_once, itself, tied}
 use Rattle.dir.proofs.FoundIn.{entries}
@@ -21,9 +21,9 @@ use Rattle.dir_writes.proofs.Lost.{IsOnce, exact, loses, lost, once_more, remove
 use Rattle.dir_writes.proofs.SlotNames.{alike_entries, relaid}
 
 abbrev Named : Type 0
-Named = List ℕ × DirectoryEntry
+Named = List ℕ × DirentValue
 
-abbrev seek : List ℕ → List Named → Option DirectoryEntry
+abbrev seek : List ℕ → List Named → Option DirentValue
 seek name es = find (slice_cmp nat_cmp) name es
 
 abbrev is_same : List ℕ → List ℕ → Bool
@@ -44,31 +44,31 @@ module _ (lies : Lying) (name : List ℕ) (s number : ℕ) (free : lies s ≡ Ok
   abbrev one : Slot
   one = record { number = number; name = name }
 
-  abbrev entry : DirectoryEntry
-  entry = record { number = number; slot = s }
+  abbrev dirent : DirentValue
+  dirent = record { number = number; slot = s }
 
   abbrev then : Lying
   then = relaid lies s (Some one)
 
   abbrev Gains : List Named → List Named → Type 0
-  Gains es more = IsOnce more × ((q : List ℕ) → seek q more ≡ cond (is_same q name) (Some entry) (seek q es))
+  Gains es more = IsOnce more × ((q : List ℕ) → seek q more ≡ cond (is_same q name) (Some dirent) (seek q es))
 
   past : (a n : ℕ) → s < a → entries then a n ≡ entries lies a n
   past a zero more = refl
   past a (suc n) more = λ i.
-      cons_option (entry_in a (cond (not_same a s (λ same. omega (arith, same, more)) i) (Ok (Some one)) (lies a)))
+      cons_option (dirent_in a (cond (not_same a s (λ same. omega (arith, same, more)) i) (Ok (Some one)) (lies a)))
       (past (a + 1) n (omega (arith, more)) i)
 
   at_it : (n : ℕ) → IsOnce (entries lies s (suc n)) → seek name (entries lies s (suc n)) ≡ None
       → Gains (entries lies s (suc n)) (entries then s (suc n))
   at_it n once none =
       let rest = entries lies (s + 1) n in
-      let all : entries lies s (suc n) ≡ rest = ap (λ r. cons_option (entry_in s r) rest) free in
-      let more : entries then s (suc n) ≡ (name, entry) ∷ rest =
-      (λ i. cons_option (entry_in s (cond (eq-eqb s s refl i) (Ok (Some one)) (lies s)))
+      let all : entries lies s (suc n) ≡ rest = ap (λ r. cons_option (dirent_in s r) rest) free in
+      let more : entries then s (suc n) ≡ (name, dirent) ∷ rest =
+      (λ i. cons_option (dirent_in s (cond (eq-eqb s s refl i) (Ok (Some one)) (lies s)))
       (past (s + 1) n (omega arith) i)) in
       moved (sym all) (sym more) (
-        once_more (name, entry) rest (subst IsOnce all once) (ap (seek name) (sym all) ∙ none),
+        once_more (name, dirent) rest (subst IsOnce all once) (ap (seek name) (sym all) ∙ none),
         λ q. refl,
       )
     where
@@ -83,7 +83,7 @@ module _ (lies : Lying) (name : List ℕ) (s number : ℕ) (free : lies s ≡ Ok
       let not = apart name x rest (is_same name x.0) refl none in
       let gains = so both.0 not.1 in
       let other = turned name x.0 not.0 (is_same x.0 name) refl in (
-        once_more x more gains.0 (gains.1 x.0 ∙ ap (λ t. cond t (Some entry) (seek x.0 rest)) other ∙ both.1),
+        once_more x more gains.0 (gains.1 x.0 ∙ ap (λ t. cond t (Some dirent) (seek x.0 rest)) other ∙ both.1),
         λ q. by_test gains.1 not.0 q (is_same q x.0) refl,
       )
     where
@@ -93,11 +93,11 @@ module _ (lies : Lying) (name : List ℕ) (s number : ℕ) (free : lies s ≡ Ok
           let clash : true ≡ false = sym is ∙ ap (λ k. is_same k x.0) (tied exact q name same) ∙ not in cc
       of_other not q is false same = refl
 
-      by_test : ((q : List ℕ) → seek q more ≡ cond (is_same q name) (Some entry) (seek q rest))
+      by_test : ((q : List ℕ) → seek q more ≡ cond (is_same q name) (Some dirent) (seek q rest))
           → is_same name x.0 ≡ false → (q : List ℕ) (b : Bool) → is_same q x.0 ≡ b
-          → cond b (Some x.1) (seek q more) ≡ cond (is_same q name) (Some entry) (cond b (Some x.1) (seek q rest))
+          → cond b (Some x.1) (seek q more) ≡ cond (is_same q name) (Some dirent) (cond b (Some x.1) (seek q rest))
       by_test gains not q true is =
-          sym (ap (λ t. cond t (Some entry) (Some x.1)) (of_other not q is (is_same q name) refl))
+          sym (ap (λ t. cond t (Some dirent) (Some x.1)) (of_other not q is (is_same q name) refl))
       by_test gains not q false is = gains q
 
   pub gains : (a n : ℕ) → a ≤ s → s < a + n → IsOnce (entries lies a n) → seek name (entries lies a n) ≡ None
@@ -109,10 +109,10 @@ module _ (lies : Lying) (name : List ℕ) (s number : ℕ) (free : lies s ≡ Ok
       step : (a n : ℕ) (read : Result (Option Slot) LayoutFault)
           → (IsOnce (entries lies (a + 1) n) → seek name (entries lies (a + 1) n) ≡ None
           → Gains (entries lies (a + 1) n) (entries then (a + 1) n))
-          → IsOnce (cons_option (entry_in a read) (entries lies (a + 1) n))
-          → seek name (cons_option (entry_in a read) (entries lies (a + 1) n)) ≡ None
-          → Gains (cons_option (entry_in a read) (entries lies (a + 1) n))
-          (cons_option (entry_in a read) (entries then (a + 1) n))
+          → IsOnce (cons_option (dirent_in a read) (entries lies (a + 1) n))
+          → seek name (cons_option (dirent_in a read) (entries lies (a + 1) n)) ≡ None
+          → Gains (cons_option (dirent_in a read) (entries lies (a + 1) n))
+          (cons_option (dirent_in a read) (entries then (a + 1) n))
       step a n (Ok (Some x)) rest once none =
           behind_one (x.name, record { number = x.number; slot = a }) (entries lies (a + 1) n)
           (entries then (a + 1) n) once none rest
@@ -130,32 +130,32 @@ module _ (lies : Lying) (name : List ℕ) (s number : ℕ) (free : lies s ≡ Ok
           (ap (λ k. seek name (entries lies k (suc n))) here ∙ none))
       go a n rest once none (inr more) =
           subst (λ read. Gains (entries lies a (suc n))
-          (cons_option (entry_in a read) (entries then (a + 1) n)))
+          (cons_option (dirent_in a read) (entries then (a + 1) n)))
           (sym (ap (λ b. cond b (Ok (Some one)) (lies a)) (not_same a s (λ same. omega (arith, same, more)))))
           (step a n (lies a) (rest more) once none)
 
   pub entered : (n : ℕ) → s < n → IsOnce (entries lies 0 n) → seek name (entries lies 0 n) ≡ None
       → from_entries {R = slice_cmp nat_cmp} (entries then 0 n)
-      ≡ insert (from_entries {R = slice_cmp nat_cmp} (entries lies 0 n)) name entry
+      ≡ insert (from_entries {R = slice_cmp nat_cmp} (entries lies 0 n)) name dirent
   entered n less once none =
       let gain = gains 0 n (omega arith) (omega (arith, less)) once none in
       same_map nat_list_cmp_total exact (from_entries {R = slice_cmp nat_cmp} (entries then 0 n))
-      (insert (from_entries {R = slice_cmp nat_cmp} (entries lies 0 n)) name entry)
+      (insert (from_entries {R = slice_cmp nat_cmp} (entries lies 0 n)) name dirent)
       (λ q. get-from_entries nat_list_cmp_total (entries then 0 n) q ∙ gain.1 q
-      ∙ ap (cond (is_same q name) (Some entry)) (sym (get-from_entries nat_list_cmp_total (entries lies 0 n) q))
-      ∙ sym (get-insert nat_list_cmp_total (from_entries {R = slice_cmp nat_cmp} (entries lies 0 n)) name entry q))
+      ∙ ap (cond (is_same q name) (Some dirent)) (sym (get-from_entries nat_list_cmp_total (entries lies 0 n) q))
+      ∙ sym (get-insert nat_list_cmp_total (from_entries {R = slice_cmp nat_cmp} (entries lies 0 n)) name dirent q))
 
 -- ---- a name that is there gets another number
 
 -- a name that was taken out and is put in again
-put_again : (m : Entries) (name : List ℕ) (entry : DirectoryEntry)
-    → insert (remove m name) name entry ≡ insert m name entry
-put_again m name entry = same_map nat_list_cmp_total exact (insert (remove m name) name entry) (insert m name entry)
-    (λ q. get-insert nat_list_cmp_total (remove m name) name entry q ∙ by_test q (is_same q name) refl
-    ∙ sym (get-insert nat_list_cmp_total m name entry q))
+put_again : (m : Entries) (name : List ℕ) (dirent : DirentValue)
+    → insert (remove m name) name dirent ≡ insert m name dirent
+put_again m name dirent = same_map nat_list_cmp_total exact (insert (remove m name) name dirent) (insert m name dirent)
+    (λ q. get-insert nat_list_cmp_total (remove m name) name dirent q ∙ by_test q (is_same q name) refl
+    ∙ sym (get-insert nat_list_cmp_total m name dirent q))
   where
     by_test : (q : List ℕ) (t : Bool) → is_same q name ≡ t
-        → cond t (Some entry) (get (remove m name) q) ≡ cond t (Some entry) (get m q)
+        → cond t (Some dirent) (get (remove m name) q) ≡ cond t (Some dirent) (get m q)
     by_test q true e = refl
     by_test q false e = get-remove nat_list_cmp_total m name q ∙ ap (λ t. cond t None (get m q)) e
 
@@ -164,8 +164,8 @@ module _ (lies : Lying) (name : List ℕ) (s number old n : ℕ) (less : s < n)
   abbrev without : Lying
   without = lost lies s
 
-  abbrev entry_then : DirectoryEntry
-  entry_then = record { number = number; slot = s }
+  abbrev dirent_then : DirentValue
+  dirent_then = record { number = number; slot = s }
 
   abbrev one_then : Slot
   one_then = record { number = number; name = name }
@@ -198,9 +198,9 @@ module _ (lies : Lying) (name : List ℕ) (s number old n : ℕ) (less : s < n)
       (gains without name s number free_then 0 n (omega arith) (omega (arith, less)) once_then none_then).0
 
   pub replaced : from_entries {R = slice_cmp nat_cmp} (entries (relaid lies s (Some one_then)) 0 n)
-      ≡ insert (from_entries {R = slice_cmp nat_cmp} (entries lies 0 n)) name entry_then
+      ≡ insert (from_entries {R = slice_cmp nat_cmp} (entries lies 0 n)) name dirent_then
   replaced =
       ap (λ es. from_entries {R = slice_cmp nat_cmp} es) (sym same_entries)
       ∙ entered without name s number free_then n less once_then none_then
-      ∙ ap (λ (m : Entries). insert m name entry_then) (removed lies name s old is n less once)
-      ∙ put_again (from_entries {R = slice_cmp nat_cmp} (entries lies 0 n)) name entry_then
+      ∙ ap (λ (m : Entries). insert m name dirent_then) (removed lies name s old is n less once)
+      ∙ put_again (from_entries {R = slice_cmp nat_cmp} (entries lies 0 n)) name dirent_then

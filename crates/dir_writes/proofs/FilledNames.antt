@@ -15,8 +15,8 @@ use Rattle.layout.specs.SlotForm.{SoundSlot, number_under, read_slot, used_bytes
 use Rattle.dir.specs.Slots.{Lying, slot_at}
 use Rattle.dir.proofs.FoundIn.{entries}
 use Rattle.dir_writes.specs.Clearing.{HasOnce, slot_block}
-use Rattle.dir_writes.specs.Entering.{entry_in}
-use Rattle.dir_writes.specs.Slotting.{IsVacant, slotted}
+use Rattle.dir_writes.specs.NameInsertion.{dirent_in}
+use Rattle.dir_writes.specs.SlotWrites.{IsVacant, slotted}
 use Rattle.dir_writes.proofs.EnteredName.{entered, gains, replaced, replaced_once}
 use Rattle.dir_writes.proofs.Lost.{IsOnce}
 use Rattle.dir_writes.proofs.SlotNames as slots
@@ -51,7 +51,7 @@ module _ (g : Geometry) (content : Image) (inode : Inode) (s : ℕ) (slot : Slot
   abbrev Fills : Type 0
   Fills = IsDirectory g (slotted content inode s bytes) inode
       × (entries_in g.inodes (slotted content inode s bytes) inode
-      ≡ insert (entries_in g.inodes content inode) slot.name (entry_in slot.number s))
+      ≡ insert (entries_in g.inodes content inode) slot.name (dirent_in slot.number s))
 
   -- a new name in a free slot
   new_name : lies s ≡ Ok None → get (entries_in g.inodes content inode) slot.name ≡ None → Fills
@@ -63,7 +63,7 @@ module _ (g : Geometry) (content : Image) (inode : Inode) (s : ℕ) (slot : Slot
             (gains lies slot.name s slot.number free 0 end (omega arith) (omega (arith, less)) was_once absent).0,
         slots.made_of g content inode s bytes (Some slot) count reads long spans dir less once
             ∙ entered lies slot.name s slot.number free end less was_once absent
-            ∙ ap (λ (m : Entries). insert m slot.name (entry_in slot.number s)) (sym was_made),
+            ∙ ap (λ (m : Entries). insert m slot.name (dirent_in slot.number s)) (sym was_made),
       )
 
   -- another number under a name that lies there
@@ -73,7 +73,7 @@ module _ (g : Geometry) (content : Image) (inode : Inode) (s : ℕ) (slot : Slot
         (replaced_once lies slot.name s slot.number old end less is was_once),
     slots.made_of g content inode s bytes (Some slot) count reads long spans dir less once
         ∙ replaced lies slot.name s slot.number old end less is was_once
-        ∙ ap (λ (m : Entries). insert m slot.name (entry_in slot.number s)) (sym was_made),
+        ∙ ap (λ (m : Entries). insert m slot.name (dirent_in slot.number s)) (sym was_made),
   )
 
   pub filled : IsVacant g content inode s slot.name → Fills

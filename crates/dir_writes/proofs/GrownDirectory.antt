@@ -19,12 +19,12 @@ use Rattle.base.specs.declared.TheConstants.{BLOCK_BYTES, DIRECT_INDEXES, FILE_I
 use Rattle.base.specs.declared.TheConstants.{MOST_SPAN, SLOTS_PER_BLOCK}
 use Rattle.disk.specs.Crash.{Image}
 use Rattle.objects.specs.Spliced.{spliced}
-use Rattle.nfs_spec.specs.Model.Node.{Body, DirectoryEntry, Entries, Node}
+use Rattle.nfs_spec.specs.Model.Node.{Body, DirentValue, Entries, Node}
 use Rattle.nfs_spec.specs.Model.Node as nodes
 use Rattle.nfs_spec.specs.Model.Tree.{Tree, with_node}
 use Rattle.nfs_spec.specs.Model.Tree as trees
-use Rattle.nfs_spec.specs.Procedures.Changes.{with_entry}
-use Rattle.procs_files.specs.Changing.{IsOwnSlot, adds}
+use Rattle.nfs_spec.specs.Procedures.Changes.{with_dirent}
+use Rattle.procs_files.specs.Writable.{IsOwnSlot, adds}
 use Rattle.layout.specs.declared.geometry.Geometry.{Geometry}
 use Rattle.layout.specs.declared.inode.Inode.{Inode}
 use Rattle.layout.specs.declared.inode.InodeKind.{InodeKind}
@@ -51,7 +51,7 @@ use Rattle.bitmap.proofs.Gained.{grown, grown_holds}
 use Rattle.dir.specs.Slots.{Lying, slot_at}
 use Rattle.dir.proofs.FoundIn.{entries}
 use Rattle.dir.proofs.SlotBlocks.{of_directory}
-use Rattle.inode.proofs.DraftsLemmas.Marks.{times}
+use Rattle.inode.proofs.WriteSetsLemmas.Marks.{times}
 use Rattle.inode_data.specs.Filling.{Fills, HasMapped, IsPiece, grown_size, mapping}
 use Rattle.inode_data.proofs.MappedFile as mapped
 use Rattle.inode_data.proofs.OneNumber.{all_still, is_some}
@@ -158,8 +158,8 @@ module _ (snap : Snap) (base : Image) (tree : Tree) (n : ℕ) (inode : Inode) (n
   abbrev pub offset : ℕ
   offset = BLOCK_BYTES * span
 
-  abbrev entry : DirectoryEntry
-  entry = record { number = number; slot = s }
+  abbrev dirent : DirentValue
+  dirent = record { number = number; slot = s }
 
   abbrev held : Entries
   held = entries_in g.inodes content inode
@@ -248,38 +248,38 @@ module _ (snap : Snap) (base : Image) (tree : Tree) (n : ℕ) (inode : Inode) (n
 
   -- ---- its indirect block
 
-  far_rule : cond (nat_lt DIRECT_INDEXES span) (not (nat_eq inode.indirect 0)) (nat_eq inode.indirect 0) ≡ true
-  far_rule = (all_nine (nat_le 2 inode.nlink) (nat_le inode.size LARGEST_DIRECTORY)
+  indirect_rule : cond (nat_lt DIRECT_INDEXES span) (not (nat_eq inode.indirect 0)) (nat_eq inode.indirect 0) ≡ true
+  indirect_rule = (all_nine (nat_le 2 inode.nlink) (nat_le inode.size LARGEST_DIRECTORY)
       (nat_eq (inode.size % BLOCK_BYTES) 0) (nat_lt 0 inode.parent) (nat_lt inode.parent g.inodes)
       (names_first (min (inode.size / BLOCK_BYTES) DIRECT_INDEXES) inode.direct)
       (cond (nat_lt DIRECT_INDEXES (inode.size / BLOCK_BYTES)) (not (nat_eq inode.indirect 0))
       (nat_eq inode.indirect 0)) (nat_eq inode.double 0) (is_none inode.verifier) tests.2).6
 
-  no_far : span ≤ DIRECT_INDEXES → nat_eq inode.indirect 0 ≡ true
-  no_far few = sym (ap (λ t. cond t (not (nat_eq inode.indirect 0)) (nat_eq inode.indirect 0))
-      (le-ltb DIRECT_INDEXES span few)) ∙ far_rule
+  no_indirect : span ≤ DIRECT_INDEXES → nat_eq inode.indirect 0 ≡ true
+  no_indirect few = sym (ap (λ t. cond t (not (nat_eq inode.indirect 0)) (nat_eq inode.indirect 0))
+      (le-ltb DIRECT_INDEXES span few)) ∙ indirect_rule
 
-  pub far_near : span < DIRECT_INDEXES
+  pub indirect_unneeded : span < DIRECT_INDEXES
       → cond (nat_lt DIRECT_INDEXES (span + 1)) (not (nat_eq inode.indirect 0)) (nat_eq inode.indirect 0) ≡ true
-  far_near few = ap (λ t. cond t (not (nat_eq inode.indirect 0)) (nat_eq inode.indirect 0))
-      (le-ltb DIRECT_INDEXES (span + 1) (omega (arith, few))) ∙ no_far (omega (arith, few))
+  indirect_unneeded few = ap (λ t. cond t (not (nat_eq inode.indirect 0)) (nat_eq inode.indirect 0))
+      (le-ltb DIRECT_INDEXES (span + 1) (omega (arith, few))) ∙ no_indirect (omega (arith, few))
 
-  pub far_past : (far : ℕ) → DIRECT_INDEXES ≤ span → nat_eq far 0 ≡ false
-      → cond (nat_lt DIRECT_INDEXES (span + 1)) (not (nat_eq far 0)) (nat_eq far 0) ≡ true
-  far_past far many some = (λ i. cond (lt-ltb DIRECT_INDEXES (span + 1) (omega (arith, many)) i) (not (some i)) (some i))
+  pub indirect_needed : (indirect_block : ℕ) → DIRECT_INDEXES ≤ span → nat_eq indirect_block 0 ≡ false
+      → cond (nat_lt DIRECT_INDEXES (span + 1)) (not (nat_eq indirect_block 0)) (nat_eq indirect_block 0) ≡ true
+  indirect_needed indirect_block many some = (λ i. cond (lt-ltb DIRECT_INDEXES (span + 1) (omega (arith, many)) i) (not (some i)) (some i))
 
   -- the first block past the direct ones takes another, too
-  pub first_far : nat_eq inode.indirect 0 ≡ true → span ≤ DIRECT_INDEXES
-  first_far none = elim (cases_lt DIRECT_INDEXES span) [
+  pub first_indirect : nat_eq inode.indirect 0 ≡ true → span ≤ DIRECT_INDEXES
+  first_indirect none = elim (cases_lt DIRECT_INDEXES span) [
     | inl many ↦
         let rule = sym (ap (λ t. cond t (not (nat_eq inode.indirect 0)) (nat_eq inode.indirect 0))
-        (lt-ltb DIRECT_INDEXES span many)) ∙ far_rule in
+        (lt-ltb DIRECT_INDEXES span many)) ∙ indirect_rule in
         let clash : false ≡ true = sym (ap not none) ∙ rule in cc
     | inr few ↦ few
   ]
 
-  pub placed_far : is_data_block_or_none g inode.indirect ≡ true
-  placed_far = (maps g inode sound).1
+  pub indirect_lies_in_data : is_data_block_or_none g inode.indirect ≡ true
+  indirect_lies_in_data = (maps g inode sound).1
 
   was_body : node.body ≡ directory_in g.inodes content inode
   was_body = body_there snap base tree n inode node grows.is.has grows.was
@@ -292,17 +292,17 @@ module _ (snap : Snap) (base : Image) (tree : Tree) (n : ℕ) (inode : Inode) (n
       directory_body g content inode kinds.Link e = cc
 
   -- the blocks that it takes
-  pub takes : adds (with_entry name entry node.body) node.body
+  pub takes : adds (with_dirent name dirent node.body) node.body
       ≡ span + 1 + cond (nat_lt DIRECT_INDEXES (span + 1)) 1 0 - (span + cond (nat_lt DIRECT_INDEXES span) 1 0)
   takes =
-      ap (λ (b : Body). adds (with_entry name entry b) b) was_body
+      ap (λ (b : Body). adds (with_dirent name dirent b) b) was_body
       ∙ ap (λ (k : ℕ). k + cond (nat_lt DIRECT_INDEXES k) 1 0 - (span + cond (nat_lt DIRECT_INDEXES span) 1 0))
       (sym (wide span))
     where
       wide : (k : ℕ) → k + 1 ≡ max k (suc (SLOTS_PER_BLOCK * k / SLOTS_PER_BLOCK))
       wide k = omega arith
 
-  pub takes_one : 1 ≤ adds (with_entry name entry node.body) node.body
+  pub takes_one : 1 ≤ adds (with_dirent name dirent node.body) node.body
   takes_one = by_test takes (cases_lt DIRECT_INDEXES span)
     where
       by_test : {k : ℕ} → k ≡ span + 1 + cond (nat_lt DIRECT_INDEXES (span + 1)) 1 0
@@ -316,16 +316,16 @@ module _ (snap : Snap) (base : Image) (tree : Tree) (n : ℕ) (inode : Inode) (n
           let one = ap {B = ℕ} (λ (t : Bool). cond t 1 0) (le-ltb DIRECT_INDEXES span few) in
           omega (arith, e, one)
 
-  pub takes_two : span ≡ DIRECT_INDEXES → adds (with_entry name entry node.body) node.body ≡ 2
+  pub takes_two : span ≡ DIRECT_INDEXES → adds (with_dirent name dirent node.body) node.body ≡ 2
   takes_two at = takes ∙ ap (λ (k : ℕ). k + 1 + cond (nat_lt DIRECT_INDEXES (k + 1)) 1 0
       - (k + cond (nat_lt DIRECT_INDEXES k) 1 0)) at
 
-  module _ (b : ℕ) (direct : List ℕ) (far : ℕ) (after : Image) (gained : List ℕ)
-      (fills : Fills g base inode offset block b direct far inode.double after gained)
+  module _ (b : ℕ) (direct : List ℕ) (indirect_block : ℕ) (after : Image) (gained : List ℕ)
+      (fills : Fills g base inode offset block b direct indirect_block inode.double after gained)
       (long_after : (q : ℕ) → length (after q) ≡ BLOCK_BYTES)
-      (far_is : cond (nat_lt DIRECT_INDEXES (span + 1)) (not (nat_eq far 0)) (nat_eq far 0) ≡ true) where
+      (indirect_is : cond (nat_lt DIRECT_INDEXES (span + 1)) (not (nat_eq indirect_block 0)) (nat_eq indirect_block 0) ≡ true) where
     abbrev pub new : Inode
-    new = mapping inode (grown_size inode.size offset block) direct far inode.double
+    new = mapping inode (grown_size inode.size offset block) direct indirect_block inode.double
 
     new_span : span_of new ≡ span + 1
     new_span = let size = size_is in omega (arith, size)
@@ -364,14 +364,14 @@ module _ (snap : Snap) (base : Image) (tree : Tree) (n : ℕ) (inode : Inode) (n
     unfolding slot_bytes bytes_of
     bytes_before k = refl
 
-    at_place : (c : Image) → ((q : ℕ) → length (c q) ≡ BLOCK_BYTES) → (ns : List ℕ) (k : ℕ)
+    at_slot_within : (c : Image) → ((q : ℕ) → length (c q) ≡ BLOCK_BYTES) → (ns : List ℕ) (k : ℕ)
         → k / SLOTS_PER_BLOCK < length ns
         → take SLOT_BYTES (drop (SLOT_BYTES * k) (flat_map (content_of c) ns))
         ≡ piece_of (content_of c (get_or ns (k / SLOTS_PER_BLOCK) 0)) k
-    at_place c longs ns k less =
-        let place : SLOT_BYTES * k ≡ BLOCK_BYTES * (k / SLOTS_PER_BLOCK) + SLOT_BYTES * (k % SLOTS_PER_BLOCK) =
+    at_slot_within c longs ns k less =
+        let offsets_agree : SLOT_BYTES * k ≡ BLOCK_BYTES * (k / SLOTS_PER_BLOCK) + SLOT_BYTES * (k % SLOTS_PER_BLOCK) =
         omega arith in
-        ap (λ p. take SLOT_BYTES (drop p (flat_map (content_of c) ns))) place
+        ap (λ p. take SLOT_BYTES (drop p (flat_map (content_of c) ns))) offsets_agree
         ∙ in_block c longs ns (k / SLOTS_PER_BLOCK) (SLOT_BYTES * (k % SLOTS_PER_BLOCK)) SLOT_BYTES less
         (omega arith)
 
@@ -390,11 +390,11 @@ module _ (snap : Snap) (base : Image) (tree : Tree) (n : ℕ) (inode : Inode) (n
         ∙ fills.others j (omega (arith, few, all)) (λ same. omega (arith, same, few)) some
         ∙ sym (ap (λ t. cond t (replicate BLOCK_BYTES 0) (content (get_or numbers j 0))) some) in
         let was_long = length-take-le span numbers (omega (arith, all)) in
-        ap (read_slot g.inodes) (bytes_now k ∙ at_place after long_after spanned k (omega (arith, few, many))
+        ap (read_slot g.inodes) (bytes_now k ∙ at_slot_within after long_after spanned k (omega (arith, few, many))
         ∙ ap (λ q. piece_of (content_of after q) k) one
         ∙ ap (λ l. piece_of l k) still
         ∙ ap (λ q. piece_of (content_of content q) k) (sym (get_or-take span numbers j 0 few))
-        ∙ sym (at_place content (mapped.long_content g base tree n inode has) (take span numbers) k
+        ∙ sym (at_slot_within content (mapped.long_content g base tree n inode has) (take span numbers) k
         (omega (arith, few, was_long)))
         ∙ sym (bytes_before k))
 
@@ -405,7 +405,7 @@ module _ (snap : Snap) (base : Image) (tree : Tree) (n : ℕ) (inode : Inode) (n
         let many = spanned_long in
         let all = low in
         let here : k / SLOTS_PER_BLOCK ≡ span = omega (arith, more, less) in
-        ap (read_slot g.inodes) (bytes_now k ∙ at_place after long_after spanned k (omega (arith, here, many))
+        ap (read_slot g.inodes) (bytes_now k ∙ at_slot_within after long_after spanned k (omega (arith, here, many))
         ∙ ap (λ j. piece_of (content_of after (get_or spanned j 0)) k) here
         ∙ ap (λ q. piece_of (content_of after q) k) (get_or-take (span + 1) (set numbers span b) span 0 (omega arith)
         ∙ get_or-set_same numbers span b 0 all)
@@ -470,7 +470,7 @@ module _ (snap : Snap) (base : Image) (tree : Tree) (n : ℕ) (inode : Inode) (n
     unfolding named_in
     made = ap (λ es. from_entries {R = slice_cmp nat_cmp} es) (sym wide_entries)
 
-    by_own : IsOwnSlot (directory_in g.inodes content inode) name entry
+    by_own : IsOwnSlot (directory_in g.inodes content inode) name dirent
         → get held name ≡ None
     by_own (inl new) = new.0
     by_own (inr old) =
@@ -482,16 +482,16 @@ module _ (snap : Snap) (base : Image) (tree : Tree) (n : ℕ) (inode : Inode) (n
     absent =
         sym (get-from_entries nat_list_cmp_total (entries (widened lies s) 0 end) name)
         ∙ ap (λ (m : Entries). get m name) (sym made)
-        ∙ by_own (subst (λ (b : Body). IsOwnSlot b name entry) was_body grows.can.own)
+        ∙ by_own (subst (λ (b : Body). IsOwnSlot b name dirent) was_body grows.can.own)
 
     free_there : widened lies s s ≡ Ok None
     free_there = past lies s s (omega arith)
 
-    entries_now : entries_in g.inodes after new ≡ insert held name entry
+    entries_now : entries_in g.inodes after new ≡ insert held name dirent
     entries_now =
         ap (λ es. from_entries {R = slice_cmp nat_cmp} es) named
         ∙ entered (widened lies s) name s number free_there end (omega arith) once absent
-        ∙ ap (λ (m : Entries). insert m name entry) (sym made)
+        ∙ ap (λ (m : Entries). insert m name dirent) (sym made)
 
     slot_ok : (k : ℕ) → k < end → IsOk (slot_at g.inodes after new k)
     slot_ok k less = subst (λ r. IsOk r) (sym (alike k less)) (by_test (nat_eq k s) (cases_lt k s))
@@ -555,12 +555,12 @@ module _ (snap : Snap) (base : Image) (tree : Tree) (n : ℕ) (inode : Inode) (n
         verifier = sound.fits.verifier;
         count = fills.count;
         direct = fills.fit;
-        indirect = fills.far_fits;
+        indirect = fills.indirect_fits;
         double = fills.double_fits;
       };
       good = subst (λ kind. is_sound_kind g kind new ≡ true) (sym grows.is.kind)
           (λ i. tests.0 i && (fills.placed i && lie.0 i && lie.1 i && fills.has_double i)
-          && (nine.0 i && small i && whole i && nine.3 i && nine.4 i && direct_first i && far_first i && nine.7 i
+          && (nine.0 i && small i && whole i && nine.3 i && nine.4 i && direct_first i && indirect_first i && nine.7 i
           && nine.8 i));
     }
       where
@@ -577,7 +577,7 @@ module _ (snap : Snap) (base : Image) (tree : Tree) (n : ℕ) (inode : Inode) (n
             (cond (nat_lt DIRECT_INDEXES (inode.size / BLOCK_BYTES)) (not (nat_eq inode.indirect 0))
             (nat_eq inode.indirect 0)) (nat_eq inode.double 0) (is_none inode.verifier) tests.2
 
-        lie : (is_data_block_or_none g far ≡ true) × (is_data_block_or_none g inode.double ≡ true)
+        lie : (is_data_block_or_none g indirect_block ≡ true) × (is_data_block_or_none g inode.double ≡ true)
             × (list_all (is_data_block_or_none g) (numbers_in after inode.double) ≡ true)
         lie = pointers_pass after new (is_data_block_or_none g) fills.pointers_placed
 
@@ -591,23 +591,23 @@ module _ (snap : Snap) (base : Image) (tree : Tree) (n : ℕ) (inode : Inode) (n
 
         direct_first : names_first (min (span_of new) DIRECT_INDEXES) direct ≡ true
         direct_first = ap (λ m. names_first (min (span_of new) m) direct) (sym fills.count)
-            ∙ names_direct direct (numbers_in after far ++ doubled_in after inode.double) (span_of new)
+            ∙ names_direct direct (numbers_in after indirect_block ++ doubled_in after inode.double) (span_of new)
             (subst (λ l. names_first (span_of new) l ≡ true)
-            (append_assoc direct (numbers_in after far) (doubled_in after inode.double)) spans_now)
+            (append_assoc direct (numbers_in after indirect_block) (doubled_in after inode.double)) spans_now)
 
-        far_first : cond (nat_lt DIRECT_INDEXES (span_of new)) (not (nat_eq far 0)) (nat_eq far 0) ≡ true
-        far_first = ap (λ k. cond (nat_lt DIRECT_INDEXES k) (not (nat_eq far 0)) (nat_eq far 0)) new_span ∙ far_is
+        indirect_first : cond (nat_lt DIRECT_INDEXES (span_of new)) (not (nat_eq indirect_block 0)) (nat_eq indirect_block 0) ≡ true
+        indirect_first = ap (λ k. cond (nat_lt DIRECT_INDEXES k) (not (nat_eq indirect_block 0)) (nat_eq indirect_block 0)) new_span ∙ indirect_is
 
     -- ---- the tree
 
     abbrev new_body : Body
-    new_body = with_entry name entry node.body
+    new_body = with_dirent name dirent node.body
 
     body_by : (kind : InodeKind) → kind ≡ kinds.Directory → body_of g.inodes after kind new ≡ new_body
     body_by kinds.Directory e =
         (λ i. nodes.Directory (entries_now i) (new_span i) inode.parent)
-        ∙ ap (λ k. nodes.Directory (insert held name entry) k inode.parent) (wide span)
-        ∙ ap (with_entry name entry) (sym was_body)
+        ∙ ap (λ k. nodes.Directory (insert held name dirent) k inode.parent) (wide span)
+        ∙ ap (with_dirent name dirent) (sym was_body)
       where
         wide : (k : ℕ) → k + 1 ≡ max k (suc (SLOTS_PER_BLOCK * k / SLOTS_PER_BLOCK))
         wide k = omega arith

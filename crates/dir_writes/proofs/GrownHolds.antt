@@ -20,12 +20,12 @@ use Rattle.layout.proofs.FreshBytes.{IsBytes, join}
 use Rattle.inode.specs.declared.snap.Snap.{Snap}
 use Rattle.bitmap.specs.NewBlock.{HasTaken}
 use Rattle.inode_data.specs.Filling.{Fills, grown_size, mapping}
-use Rattle.inode_data.proofs.Cases.{block_named, block_named_far, block_named_first}
-use Rattle.inode_data.proofs.FarNumbers.{named_count}
+use Rattle.inode_data.proofs.Cases.{block_named, block_named_indirect, block_named_first}
+use Rattle.inode_data.proofs.PointerNumbers.{named_count}
 use Rattle.inode_data.proofs.MappedFile.{long_content}
 use Rattle.inode_data.proofs.PieceWritten.{not_zero}
 use Rattle.inode_data.proofs.Stored.{content_are, named_are, zeros_are}
-use Rattle.dir_writes.specs.Entering.{with_name}
+use Rattle.dir_writes.specs.NameInsertion.{with_name}
 use Rattle.layout.specs.SlotForm.{first_slot}
 use Rattle.dir_writes.specs.Growing.{IsGrowth}
 use Rattle.dir_writes.proofs.GrownDirectory as grown
@@ -84,65 +84,65 @@ module _ (snap : Snap) (base : Image) (tree : Tree) (n : ℕ) (inode : Inode) (n
       Holds g (with_inode g image n new) next × (inode_at g (with_inode g image n new) n ≡ Ok (Some new))
 
   abbrev as_grown : List ℕ → ℕ → Inode
-  as_grown direct far = mapping inode (grown_size inode.size offset block) direct far inode.double
+  as_grown direct indirect_block = mapping inode (grown_size inode.size offset block) direct indirect_block inode.double
 
-  sized : (direct : List ℕ) (far : ℕ) → as_grown direct far ≡ mapping inode size direct far inode.double
-  sized direct far =
-      ap (λ k. mapping inode k direct far inode.double) (grown.size_is snap base tree n inode node name number grows)
+  sized : (direct : List ℕ) (indirect_block : ℕ) → as_grown direct indirect_block ≡ mapping inode size direct indirect_block inode.double
+  sized direct indirect_block =
+      ap (λ k. mapping inode k direct indirect_block inode.double) (grown.size_is snap base tree n inode node name number grows)
 
   module _ (gained : List ℕ) (middle : Image) (taken : HasTaken g base tree gained middle)
       (long : (q : ℕ) → q < g.blocks → length (middle q) ≡ BLOCK_BYTES) (b : ℕ) (lies : is_data g b ≡ true)
-      (direct : List ℕ) (far : ℕ)
-      (far_is : cond (nat_lt DIRECT_INDEXES (span + 1)) (not (nat_eq far 0)) (nat_eq far 0) ≡ true) where
-    one : Fills g base inode offset block b direct far inode.double (put content b block) gained
-        → Grows (with_bytes middle b 0 block) (mapping inode size direct far inode.double)
+      (direct : List ℕ) (indirect_block : ℕ)
+      (indirect_is : cond (nat_lt DIRECT_INDEXES (span + 1)) (not (nat_eq indirect_block 0)) (nat_eq indirect_block 0) ≡ true) where
+    one : Fills g base inode offset block b direct indirect_block inode.double (put content b block) gained
+        → Grows (with_bytes middle b 0 block) (mapping inode size direct indirect_block inode.double)
     one fills =
         let after = put content b block in
         let all = put_long content b block was_long count in
-        let sound = grown.new_sound snap base tree n inode node name number grows b direct far after gained fills all
-        far_is in
-        subst (Grows (with_bytes middle b 0 block)) (sized direct far) (
-          one_holds g base tree next n grows.is.has.less (as_grown direct far) sound gained middle taken long b block
+        let sound = grown.new_sound snap base tree n inode node name number grows b direct indirect_block after gained fills all
+        indirect_is in
+        subst (Grows (with_bytes middle b 0 block)) (sized direct indirect_block) (
+          one_holds g base tree next n grows.is.has.less (as_grown direct indirect_block) sound gained middle taken long b block
               lies count block_are
-              (grown.grown_parts snap base tree n inode node name number grows b direct far after gained fills all
-              far_is),
-          one_read g base tree next n grows.is.has.less (as_grown direct far) sound gained middle taken long b block
+              (grown.grown_parts snap base tree n inode node name number grows b direct indirect_block after gained fills all
+              indirect_is),
+          one_read g base tree next n grows.is.has.less (as_grown direct indirect_block) sound gained middle taken long b block
               lies count block_are,
         )
 
-    both : (named : List ℕ) → is_data g far ≡ true → length named ≡ BLOCK_BYTES → AreBytes named
-        → Fills g base inode offset block b direct far inode.double (put (put content far named) b block) gained
-        → Grows (with_bytes (with_bytes middle far 0 named) b 0 block) (mapping inode size direct far inode.double)
-    both named far_lies named_long named_each fills =
-        let after = put (put content far named) b block in
-        let all = put_long (put content far named) b block (put_long content far named was_long named_long) count in
-        let sound = grown.new_sound snap base tree n inode node name number grows b direct far after gained fills all
-        far_is in
-        subst (Grows (with_bytes (with_bytes middle far 0 named) b 0 block)) (sized direct far) (
-          both_hold g base tree next n grows.is.has.less (as_grown direct far) sound gained middle taken long b block
-              lies count block_are far named far_lies named_long named_each
-              (grown.grown_parts snap base tree n inode node name number grows b direct far after gained fills all
-              far_is),
-          both_read g base tree next n grows.is.has.less (as_grown direct far) sound gained middle taken long b block
-              lies count block_are far named far_lies named_long named_each,
+    both : (named : List ℕ) → is_data g indirect_block ≡ true → length named ≡ BLOCK_BYTES → AreBytes named
+        → Fills g base inode offset block b direct indirect_block inode.double (put (put content indirect_block named) b block) gained
+        → Grows (with_bytes (with_bytes middle indirect_block 0 named) b 0 block) (mapping inode size direct indirect_block inode.double)
+    both named indirect_lies named_long named_each fills =
+        let after = put (put content indirect_block named) b block in
+        let all = put_long (put content indirect_block named) b block (put_long content indirect_block named was_long named_long) count in
+        let sound = grown.new_sound snap base tree n inode node name number grows b direct indirect_block after gained fills all
+        indirect_is in
+        subst (Grows (with_bytes (with_bytes middle indirect_block 0 named) b 0 block)) (sized direct indirect_block) (
+          both_hold g base tree next n grows.is.has.less (as_grown direct indirect_block) sound gained middle taken long b block
+              lies count block_are indirect_block named indirect_lies named_long named_each
+              (grown.grown_parts snap base tree n inode node name number grows b direct indirect_block after gained fills all
+              indirect_is),
+          both_read g base tree next n grows.is.has.less (as_grown direct indirect_block) sound gained middle taken long b block
+              lies count block_are indirect_block named indirect_lies named_long named_each,
         )
 
   -- ---- the block is named by the inode, by the indirect block, or by a new one
 
-  pub near_grows : (b : ℕ) (middle : Image) → HasTaken g base tree (b ∷ []) middle
+  pub direct_grows : (b : ℕ) (middle : Image) → HasTaken g base tree (b ∷ []) middle
       → ((q : ℕ) → q < g.blocks → length (middle q) ≡ BLOCK_BYTES) → span < DIRECT_INDEXES
       → Grows (with_bytes middle b 0 block) (mapping inode size (set inode.direct span b) inode.indirect inode.double)
-  near_grows b middle taken long near =
+  direct_grows b middle taken long direct_part =
       subst (λ k. Grows (with_bytes middle b 0 block)
       (mapping inode size (set inode.direct k b) inode.indirect inode.double))
       at_index
       (one (b ∷ []) middle taken long b taken.were_free.0.lies (set inode.direct (offset / BLOCK_BYTES) b)
-      inode.indirect (grown.far_near snap base tree n inode node name number grows near)
+      inode.indirect (grown.indirect_unneeded snap base tree n inode node name number grows direct_part)
       (block_named g base tree n inode (grown.has snap base tree n inode node name number grows) offset block
       (grown.piece snap base tree n inode node name number grows) b block taken.were_free.0
       (grown.none_there snap base tree n inode node name number grows)
       (grown.block_is snap base tree n inode node name number grows)
-      (subst (λ k. k < DIRECT_INDEXES) (sym at_index) near)))
+      (subst (λ k. k < DIRECT_INDEXES) (sym at_index) direct_part)))
 
   -- a directory spans no index that the double indirect block reaches
   index_low : offset / BLOCK_BYTES < FIRST_DOUBLE_INDEX
@@ -150,55 +150,55 @@ module _ (snap : Snap) (base : Image) (tree : Tree) (n : ℕ) (inode : Inode) (n
       let few = grown.fewer snap base tree n inode node name number grows in
       let at = at_index in omega (arith, few, at)
 
-  place_small : DIRECT_INDEXES ≤ span → offset / BLOCK_BYTES - DIRECT_INDEXES < INDIRECT_INDEXES
-  place_small past =
+  index_is_small : DIRECT_INDEXES ≤ span → offset / BLOCK_BYTES - DIRECT_INDEXES < INDIRECT_INDEXES
+  index_is_small past =
       let few = grown.fewer snap base tree n inode node name number grows in
       let at = at_index in omega (arith, few, at, past)
 
-  pub far_grows : (b : ℕ) (middle : Image) → HasTaken g base tree (b ∷ []) middle
+  pub indirect_grows : (b : ℕ) (middle : Image) → HasTaken g base tree (b ∷ []) middle
       → ((q : ℕ) → q < g.blocks → length (middle q) ≡ BLOCK_BYTES) → DIRECT_INDEXES ≤ span
       → is_data g inode.indirect ≡ true
       → Grows (with_bytes (with_bytes middle inode.indirect 0
       (spliced (content inode.indirect) (4 * (span - DIRECT_INDEXES)) (four_bytes b))) b 0 block)
       (mapping inode size inode.direct inode.indirect inode.double)
-  far_grows b middle taken long past far_lies =
-      let far = inode.indirect in
-      let place = offset / BLOCK_BYTES - DIRECT_INDEXES in
-      let some = not_zero g far far_lies in
-      subst (λ k. Grows (with_bytes (with_bytes middle far 0
-      (spliced (content far) (4 * (k - DIRECT_INDEXES)) (four_bytes b))) b 0 block)
-      (mapping inode size inode.direct far inode.double))
+  indirect_grows b middle taken long past indirect_lies =
+      let indirect_block = inode.indirect in
+      let index_within = offset / BLOCK_BYTES - DIRECT_INDEXES in
+      let some = not_zero g indirect_block indirect_lies in
+      subst (λ k. Grows (with_bytes (with_bytes middle indirect_block 0
+      (spliced (content indirect_block) (4 * (k - DIRECT_INDEXES)) (four_bytes b))) b 0 block)
+      (mapping inode size inode.direct indirect_block inode.double))
       at_index
-      (both (b ∷ []) middle taken long b taken.were_free.0.lies inode.direct far
-      (grown.far_past snap base tree n inode node name number grows far past some)
-      (spliced (content far) (4 * place) (four_bytes b)) far_lies
-      (named_count (content far) place b (was_long far) (place_small past))
-      (named_are (content far) (4 * place) b (content_are g base tree taken.holds far far_lies))
-      (block_named_far g base tree n inode (grown.has snap base tree n inode node name number grows) offset block
+      (both (b ∷ []) middle taken long b taken.were_free.0.lies inode.direct indirect_block
+      (grown.indirect_needed snap base tree n inode node name number grows indirect_block past some)
+      (spliced (content indirect_block) (4 * index_within) (four_bytes b)) indirect_lies
+      (named_count (content indirect_block) index_within b (was_long indirect_block) (index_is_small past))
+      (named_are (content indirect_block) (4 * index_within) b (content_are g base tree taken.holds indirect_block indirect_lies))
+      (block_named_indirect g base tree n inode (grown.has snap base tree n inode node name number grows) offset block
       (grown.piece snap base tree n inode node name number grows) b block taken.were_free.0
       (grown.none_there snap base tree n inode node name number grows)
       (grown.block_is snap base tree n inode node name number grows)
       (subst (λ k. DIRECT_INDEXES ≤ k) (sym at_index) past) index_low some))
 
-  pub first_grows : (far b : ℕ) (middle : Image) → HasTaken g base tree (far ∷ b ∷ []) middle
+  pub first_grows : (indirect_block b : ℕ) (middle : Image) → HasTaken g base tree (indirect_block ∷ b ∷ []) middle
       → ((q : ℕ) → q < g.blocks → length (middle q) ≡ BLOCK_BYTES) → DIRECT_INDEXES ≤ span
       → nat_eq inode.indirect 0 ≡ true
-      → Grows (with_bytes (with_bytes middle far 0
+      → Grows (with_bytes (with_bytes middle indirect_block 0
       (spliced (replicate BLOCK_BYTES 0) (4 * (span - DIRECT_INDEXES)) (four_bytes b))) b 0 block)
-      (mapping inode size inode.direct far inode.double)
-  first_grows far b middle taken long past none =
-      let place = offset / BLOCK_BYTES - DIRECT_INDEXES in
-      let far_lies = taken.were_free.0.lies in
-      subst (λ k. Grows (with_bytes (with_bytes middle far 0
+      (mapping inode size inode.direct indirect_block inode.double)
+  first_grows indirect_block b middle taken long past none =
+      let index_within = offset / BLOCK_BYTES - DIRECT_INDEXES in
+      let indirect_lies = taken.were_free.0.lies in
+      subst (λ k. Grows (with_bytes (with_bytes middle indirect_block 0
       (spliced (replicate BLOCK_BYTES 0) (4 * (k - DIRECT_INDEXES)) (four_bytes b))) b 0 block)
-      (mapping inode size inode.direct far inode.double)) at_index
-      (both (far ∷ b ∷ []) middle taken long b taken.were_free.1.0.lies inode.direct far
-      (grown.far_past snap base tree n inode node name number grows far past (not_zero g far far_lies))
-      (spliced (replicate BLOCK_BYTES 0) (4 * place) (four_bytes b)) far_lies
-      (named_count (replicate BLOCK_BYTES 0) place b refl (place_small past))
-      (named_are (replicate BLOCK_BYTES 0) (4 * place) b zeros_are)
+      (mapping inode size inode.direct indirect_block inode.double)) at_index
+      (both (indirect_block ∷ b ∷ []) middle taken long b taken.were_free.1.0.lies inode.direct indirect_block
+      (grown.indirect_needed snap base tree n inode node name number grows indirect_block past (not_zero g indirect_block indirect_lies))
+      (spliced (replicate BLOCK_BYTES 0) (4 * index_within) (four_bytes b)) indirect_lies
+      (named_count (replicate BLOCK_BYTES 0) index_within b refl (index_is_small past))
+      (named_are (replicate BLOCK_BYTES 0) (4 * index_within) b zeros_are)
       (block_named_first g base tree n inode (grown.has snap base tree n inode node name number grows) offset block
       (grown.piece snap base tree n inode node name number grows) b block taken.were_free.1.0
       (grown.none_there snap base tree n inode node name number grows)
       (grown.block_is snap base tree n inode node name number grows)
-      (subst (λ k. DIRECT_INDEXES ≤ k) (sym at_index) past) index_low none far taken.were_free.0 taken.once))
+      (subst (λ k. DIRECT_INDEXES ≤ k) (sym at_index) past) index_low none indirect_block taken.were_free.0 taken.once))

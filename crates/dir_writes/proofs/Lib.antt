@@ -3,10 +3,10 @@ pub mod SlotPut
 pub mod SlotNames
 pub mod SlotHolds
 pub mod ClearedNames
-pub mod OnePlace
+pub mod OneIndex
 pub mod LostName
 pub mod Places
-pub mod KeptFile
+pub mod PreservedFile
 pub mod EnteredName
 pub mod UsedBytes
 pub mod EnteredHolds

@@ -12,17 +12,17 @@ use Rattle.std.specs.Ordering.{eq_by_cmp, nat_cmp}
 use Rattle.std.proofs.lemmas.Bool.{eq-eqb}
 use Rattle.layout.specs.declared.fault.LayoutFault.{LayoutFault}
 use Rattle.layout.specs.declared.slot.Slot.{Slot}
-use Rattle.layout.specs.Decode.{entry_in}
+use Rattle.layout.specs.Decode.{dirent_in}
 use Rattle.layout.specs.SlotForm.{number_under}
 use Rattle.layout.proofs.Written.{not_same}
-use Rattle.nfs_spec.specs.Model.Node.{DirectoryEntry}
+use Rattle.nfs_spec.specs.Model.Node.{DirentValue}
 use Rattle.dir.specs.Slots.{Lying}
 use Rattle.dir.proofs.Distinct.{Once, first_once, some_found, tied}
 use Rattle.dir.proofs.FoundIn.{entries}
 use Rattle.dir.proofs.Members.{at_or_past, in_range}
 
 abbrev Named : Type 0
-Named = List ℕ × DirectoryEntry
+Named = List ℕ × DirentValue
 
 pub exact : map.IsAntisymmetric (slice_cmp nat_cmp)
 exact = map.slice_cmp-IsAntisymmetric map.nat_cmp-IsAntisymmetric
@@ -30,7 +30,7 @@ exact = map.slice_cmp-IsAntisymmetric map.nat_cmp-IsAntisymmetric
 abbrev pub IsOnce : List Named → Type 0
 IsOnce es = Once {R = slice_cmp nat_cmp} nat_list_cmp_total exact es
 
-abbrev seek : List ℕ → List Named → Option DirectoryEntry
+abbrev seek : List ℕ → List Named → Option DirentValue
 seek name es = find (slice_cmp nat_cmp) name es
 
 abbrev is_same : List ℕ → List ℕ → Bool
@@ -52,7 +52,7 @@ once_more x es once none =
     plus : (n : ℕ) → n + 1 ≡ suc n
     plus n = omega arith
 
-none_cond : (b : Bool) (o : Option DirectoryEntry) → o ≡ None → cond b None o ≡ None
+none_cond : (b : Bool) (o : Option DirentValue) → o ≡ None → cond b None o ≡ None
 none_cond true o e = refl
 none_cond false o e = e
 
@@ -117,23 +117,23 @@ other_lost name x rest less once there so =
 -- ---- all slots
 
 module _ (lies : Lying) (name : List ℕ) (s number : ℕ) (is : number_under name (lies s) ≡ Ok (Some number)) where
-  abbrev slot_entry : ℕ → Option Named
-  slot_entry index = entry_in index (lies index)
+  abbrev slot_dirent : ℕ → Option Named
+  slot_dirent index = dirent_in index (lies index)
 
   past : (a n : ℕ) → s < a → entries (lost lies s) a n ≡ entries lies a n
   past a zero more = refl
   past a (suc n) more = λ i.
-      cons_option (entry_in a (cond (not_same a s (λ same. omega (arith, same, more)) i) (Ok None) (lies a)))
+      cons_option (dirent_in a (cond (not_same a s (λ same. omega (arith, same, more)) i) (Ok None) (lies a)))
       (past (a + 1) n (omega (arith, more)) i)
 
   there : (a n : ℕ) → a ≤ s → s < a + n → seek name (entries lies a n) ≡ None → ⊥
   there a n low less none =
       let one = named_of name (lies s) number is in
-      let entry : slot_entry s ≡ Some (one.0.name, record { number = one.0.number; slot = s }) =
-      ap (entry_in s) one.1 in
+      let dirent : slot_dirent s ≡ Some (one.0.name, record { number = one.0.number; slot = s }) =
+      ap (dirent_in s) one.1 in
       some_found nat_list_cmp_total exact (entries lies a n) one.0.name
       (record { number = one.0.number; slot = s })
-      (in_range slot_entry a n s (one.0.name, record { number = one.0.number; slot = s }) low less entry)
+      (in_range slot_dirent a n s (one.0.name, record { number = one.0.number; slot = s }) low less dirent)
       (ap (λ k. seek k (entries lies a n)) (sym (tied exact name one.0.name one.2)) ∙ none)
 
   abbrev pub Loses : List Named → List Named → Type 0
@@ -144,9 +144,9 @@ module _ (lies : Lying) (name : List ℕ) (s number : ℕ) (is : number_under na
       let one = named_of name (lies s) number is in
       let rest = entries lies (s + 1) n in
       let first : Named = (one.0.name, record { number = one.0.number; slot = s }) in
-      let all : entries lies s (suc n) ≡ first ∷ rest = ap (λ r. cons_option (entry_in s r) rest) one.1 in
+      let all : entries lies s (suc n) ≡ first ∷ rest = ap (λ r. cons_option (dirent_in s r) rest) one.1 in
       let less : entries (lost lies s) s (suc n) ≡ rest =
-      (λ i. cons_option (entry_in s (cond (eq-eqb s s refl i) (Ok None) (lies s)))
+      (λ i. cons_option (dirent_in s (cond (eq-eqb s s refl i) (Ok None) (lies s)))
       (past (s + 1) n (omega arith) i)) in
       let lose = here_lost name first rest one.2 (moved all once) in
       moved_loses (sym all) (sym less) lose
@@ -166,9 +166,9 @@ module _ (lies : Lying) (name : List ℕ) (s number : ℕ) (is : number_under na
       step : (a n : ℕ) (read : Result (Option Slot) LayoutFault)
           → (IsOnce (entries lies (a + 1) n) → Loses (entries lies (a + 1) n) (entries (lost lies s) (a + 1) n))
           → (seek name (entries lies (a + 1) n) ≡ None → ⊥)
-          → IsOnce (cons_option (entry_in a read) (entries lies (a + 1) n))
-          → Loses (cons_option (entry_in a read) (entries lies (a + 1) n))
-          (cons_option (entry_in a read) (entries (lost lies s) (a + 1) n))
+          → IsOnce (cons_option (dirent_in a read) (entries lies (a + 1) n))
+          → Loses (cons_option (dirent_in a read) (entries lies (a + 1) n))
+          (cons_option (dirent_in a read) (entries (lost lies s) (a + 1) n))
       step a n (Ok (Some one)) rest some once =
           other_lost name (one.name, record { number = one.number; slot = a }) (entries lies (a + 1) n)
           (entries (lost lies s) (a + 1) n) once some rest
@@ -185,7 +185,7 @@ module _ (lies : Lying) (name : List ℕ) (s number : ℕ) (is : number_under na
           (at_it n (subst (λ k. IsOnce (entries lies k (suc n))) (sym here) once))
       go a n rest less once (inr more) =
           subst (λ read. Loses (entries lies a (suc n))
-          (cons_option (entry_in a read) (entries (lost lies s) (a + 1) n)))
+          (cons_option (dirent_in a read) (entries (lost lies s) (a + 1) n)))
           (sym (ap (λ b. cond b (Ok None) (lies a)) (not_same a s (λ same. omega (arith, same, more)))))
           (step a n (lies a) (rest more) (there (a + 1) n more (omega (arith, less))) once)
 

@@ -6,7 +6,7 @@ use Rattle.disk.specs.Crash.{Image}
 use Rattle.nfs_spec.specs.Model.Node.{Body, Entries, Node}
 use Rattle.nfs_spec.specs.Model.Node as nodes
 use Rattle.nfs_spec.specs.Model.Tree.{Tree, node_at, with_node}
-use Rattle.nfs_spec.specs.Procedures.Changes.{without_entry}
+use Rattle.nfs_spec.specs.Procedures.Changes.{without_dirent}
 use Rattle.layout.specs.declared.geometry.Geometry.{Geometry}
 use Rattle.layout.specs.declared.inode.Inode.{Inode}
 use Rattle.layout.specs.declared.inode.InodeKind.{InodeKind}
@@ -60,7 +60,7 @@ module _ (snap : Snap) (old : Image) (tree : Tree) (n : ℕ) (inode : Inode) (na
       (zero_bytes SLOT_BYTES) (free_read g.inodes) is less)))
 
   same_body : (kind : InodeKind) → kind ≡ kinds.Directory
-      → new_body ≡ without_entry name (body_of g.inodes content kind inode)
+      → new_body ≡ without_dirent name (body_of g.inodes content kind inode)
   same_body kinds.Directory e = refl
   same_body kinds.Regular e = cc
   same_body kinds.Link e = cc
@@ -73,5 +73,5 @@ module _ (snap : Snap) (old : Image) (tree : Tree) (n : ℕ) (inode : Inode) (na
       (slots.slot_file snap old tree n inode s zeros None refl (zero_bytes SLOT_BYTES) (free_read g.inodes) is less
       node there_is new_body
       ∙ ap (λ (b : Body). record node { body = b })
-      (same_body inode.kind is.kind ∙ ap (without_entry name) (sym (slots.was_file snap old tree n inode s zeros None
+      (same_body inode.kind is.kind ∙ ap (without_dirent name) (sym (slots.was_file snap old tree n inode s zeros None
       refl (zero_bytes SLOT_BYTES) (free_read g.inodes) is less node there_is))))

@@ -51,11 +51,11 @@ some_before (x ∷ xs) (suc span) (suc j) less low is =
     let first = all_two (is_some x) (list_all is_some (take span xs)) parts.0 in
     some_before xs span j (omega (arith, less)) (omega (arith, low)) (λ i. first.1 i && parts.1 i)
 
-all_front : (p : ℕ → Bool) (direct rest : List ℕ) → list_all p (direct ++ rest) ≡ true → list_all p direct ≡ true
-all_front p [] rest is = refl
-all_front p (x ∷ xs) rest is =
+all_leading : (p : ℕ → Bool) (direct rest : List ℕ) → list_all p (direct ++ rest) ≡ true → list_all p direct ≡ true
+all_leading p [] rest is = refl
+all_leading p (x ∷ xs) rest is =
     let two = all_two (p x) (list_all p (xs ++ rest)) is in
-    λ i. two.0 i && all_front p xs rest two.1 i
+    λ i. two.0 i && all_leading p xs rest two.1 i
 
 -- what holds of all numbers holds of those of the inode
 pub names_direct : (direct rest : List ℕ) (k : ℕ) → names_first k (direct ++ rest) ≡ true
@@ -66,7 +66,7 @@ names_direct [] rest k is = none (min k 0)
     none zero = refl
     none (suc m) = refl
 names_direct (x ∷ xs) rest zero is =
-    ap (λ m. names_first m (x ∷ xs)) (least (length (x ∷ xs))) ∙ all_front is_none (x ∷ xs) rest is
+    ap (λ m. names_first m (x ∷ xs)) (least (length (x ∷ xs))) ∙ all_leading is_none (x ∷ xs) rest is
   where
     least : (n : ℕ) → min 0 n ≡ 0
     least n = omega arith

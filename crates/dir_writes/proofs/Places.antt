@@ -8,62 +8,62 @@ use Rattle.std.specs.Ordering.{eq_by_cmp, nat_cmp}
 use Rattle.std.proofs.lemmas.Bool.{cases_eq}
 use Rattle.base.specs.declared.TheConstants.{SLOTS_PER_BLOCK}
 use Rattle.disk.specs.Crash.{Image}
-use Rattle.nfs_spec.specs.Model.Node.{Body, DirectoryEntry, Entries, Node}
+use Rattle.nfs_spec.specs.Model.Node.{Body, DirentValue, Entries, Node}
 use Rattle.nfs_spec.specs.Model.Node as nodes
 use Rattle.nfs_spec.specs.Model.Tree.{Tree, node_at, with_node}
-use Rattle.nfs_spec.specs.Procedures.Changes.{without_entry}
+use Rattle.nfs_spec.specs.Procedures.Changes.{without_dirent}
 use Rattle.layout.specs.declared.fault.LayoutFault.{LayoutFault}
 use Rattle.layout.specs.declared.geometry.Geometry.{Geometry}
 use Rattle.layout.specs.declared.inode.Inode.{Inode}
 use Rattle.layout.specs.declared.slot.Slot.{Slot}
-use Rattle.layout.specs.Decode.{entries_in, entry_in, named_in, span_of}
+use Rattle.layout.specs.Decode.{entries_in, dirent_in, named_in, span_of}
 use Rattle.layout.specs.Holds.{Holds}
 use Rattle.layout.specs.SlotForm.{number_under}
-use Rattle.procs_files.specs.declared.entry.Entry.{Entry}
-use Rattle.procs_files.specs.Heads.{entry_of}
+use Rattle.procs_files.specs.declared.dirent.SlotDirent.{SlotDirent}
+use Rattle.procs_files.specs.Heads.{dirent_of}
 use Rattle.dir.specs.Slots.{slot_at}
 use Rattle.dir.proofs.Distinct.{found_in, itself, tied}
 use Rattle.dir.proofs.FoundIn.{entries}
 use Rattle.dir.proofs.Members.{from_range, same}
-use Rattle.inode.proofs.DraftsLemmas.OneFile.{here_next, there_next}
+use Rattle.inode.proofs.WriteSetsLemmas.OneFile.{here_next, there_next}
 use Rattle.dir_writes.proofs.Lost.{exact}
 
 pub record LiesAt (inodes : ℕ) (content : Image) (inode : Inode) (name : List ℕ) (slot number : ℕ) : Type 0 where
   pub less : slot < SLOTS_PER_BLOCK * span_of inode
   pub is : number_under name (slot_at inodes content inode slot) ≡ Ok (Some number)
 
-entry_is : (i : ℕ) (read : Result (Option Slot) LayoutFault) (name : List ℕ) (entry : DirectoryEntry)
-    → entry_in i read ≡ Some (name, entry)
-    → (entry.slot ≡ i) × (number_under name read ≡ Ok (Some entry.number))
-entry_is i (Ok (Some one)) name entry e =
-    let pair : (one.name, record { number = one.number; slot = i }) ≡ (name, entry) =
-    same (one.name, record { number = one.number; slot = i }) (name, entry) e in
-    let key : one.name ≡ name = ap (λ (p : List ℕ × DirectoryEntry). p.0) pair in (
-      sym (ap (λ (p : List ℕ × DirectoryEntry). p.1.slot) pair),
+dirent_is : (i : ℕ) (read : Result (Option Slot) LayoutFault) (name : List ℕ) (dirent : DirentValue)
+    → dirent_in i read ≡ Some (name, dirent)
+    → (dirent.slot ≡ i) × (number_under name read ≡ Ok (Some dirent.number))
+dirent_is i (Ok (Some one)) name dirent e =
+    let pair : (one.name, record { number = one.number; slot = i }) ≡ (name, dirent) =
+    same (one.name, record { number = one.number; slot = i }) (name, dirent) e in
+    let key : one.name ≡ name = ap (λ (p : List ℕ × DirentValue). p.0) pair in (
+      sym (ap (λ (p : List ℕ × DirentValue). p.1.slot) pair),
       ap (λ k. Ok (cond (eq_by_cmp (slice_cmp nat_cmp) k one.name) (Some one.number) None)) (sym key)
           ∙ ap (λ t. Ok (cond t (Some one.number) None)) (itself nat_list_cmp_total one.name)
-          ∙ ap (λ k. Ok (Some k)) (ap (λ (p : List ℕ × DirectoryEntry). p.1.number) pair),
+          ∙ ap (λ k. Ok (Some k)) (ap (λ (p : List ℕ × DirentValue). p.1.number) pair),
     )
-entry_is i (Ok None) name entry e = cc
-entry_is i (Err fault) name entry e = cc
+dirent_is i (Ok None) name dirent e = cc
+dirent_is i (Err fault) name dirent e = cc
 
-pub lies_at : (inodes : ℕ) (content : Image) (inode : Inode) (name : List ℕ) (place : Entry)
-    → option_map entry_of (Some place) ≡ map.get (entries_in inodes content inode) name
-    → LiesAt inodes content inode name place.slot place.number
+pub lies_at : (inodes : ℕ) (content : Image) (inode : Inode) (name : List ℕ) (search_hit : SlotDirent)
+    → option_map dirent_of (Some search_hit) ≡ map.get (entries_in inodes content inode) name
+    → LiesAt inodes content inode name search_hit.slot search_hit.number
 unfolding named_in
-lies_at inodes content inode name place found =
+lies_at inodes content inode name search_hit found =
     let end : ℕ = SLOTS_PER_BLOCK * span_of inode in
-    let es : List (List ℕ × DirectoryEntry) = entries (slot_at inodes content inode) 0 end in
-    let member = found_in nat_list_cmp_total exact es name (entry_of place)
+    let es : List (List ℕ × DirentValue) = entries (slot_at inodes content inode) 0 end in
+    let member = found_in nat_list_cmp_total exact es name (dirent_of search_hit)
     (sym (map.get-from_entries nat_list_cmp_total es name) ∙ sym found) in
-    let at = from_range (λ index. entry_in index (slot_at inodes content inode index)) 0 end (name, entry_of place)
+    let at = from_range (λ index. dirent_in index (slot_at inodes content inode index)) 0 end (name, dirent_of search_hit)
     member in
-    let both = entry_is at.0 (slot_at inodes content inode at.0) name (entry_of place) at.3 in
+    let both = dirent_is at.0 (slot_at inodes content inode at.0) name (dirent_of search_hit) at.3 in
     let high = at.2 in
     let here = both.0 in
     record {
       less = omega (arith, high, here);
-      is = subst (λ k. number_under name (slot_at inodes content inode k) ≡ Ok (Some place.number)) (sym here)
+      is = subst (λ k. number_under name (slot_at inodes content inode k) ≡ Ok (Some search_hit.number)) (sym here)
           both.1;
     }
 
@@ -98,5 +98,5 @@ same_holds g image tree n node new holds was is = record {
     ]
 
 pub lost_none : (entries : Entries) (span parent : ℕ) (name : List ℕ) → map.get entries name ≡ None
-    → without_entry name (nodes.Directory entries span parent) ≡ nodes.Directory entries span parent
+    → without_dirent name (nodes.Directory entries span parent) ≡ nodes.Directory entries span parent
 lost_none entries span parent name none = ap (λ es. nodes.Directory es span parent) (without_none entries name none)

@@ -18,7 +18,7 @@ use Rattle.objects.specs.Spliced.{spliced}
 use Rattle.objects.proofs.Splices.{spliced-length}
 use Rattle.layout.proofs.FreshBytes.{IsBytes}
 use Rattle.layout.proofs.WrittenBytes.{spliced-bytes}
-use Rattle.inode.proofs.DraftsLemmas.OtherWrites.{data_written}
+use Rattle.inode.proofs.WriteSetsLemmas.OtherWrites.{data_written}
 use Rattle.nfs_spec.specs.Model.Node.{Body, Entries, Node}
 use Rattle.nfs_spec.specs.Model.Node as nodes
 use Rattle.nfs_spec.specs.Model.Tree.{Tree, node_at, with_node}
@@ -47,15 +47,15 @@ use Rattle.bitmap.proofs.Held.{are_data}
 use Rattle.dir.specs.Slots.{IsDirectoryOf, Lying, slot_at}
 use Rattle.dir.proofs.FoundIn.{entries}
 use Rattle.dir.proofs.SlotBlocks.{of_directory, small}
-use Rattle.inode.proofs.DraftsLemmas.Marks.{times}
-use Rattle.inode.proofs.DraftsLemmas.OneFile.{blocks_still, numbered, one_file}
+use Rattle.inode.proofs.WriteSetsLemmas.Marks.{times}
+use Rattle.inode.proofs.WriteSetsLemmas.OneFile.{blocks_still, numbered, one_file}
 use Rattle.dir_writes.specs.Clearing.{HasOnce, slot_block}
-use Rattle.dir_writes.specs.Slotting.{slotted, slotted_block}
+use Rattle.dir_writes.specs.SlotWrites.{slotted, slotted_block}
 use Rattle.dir_writes.proofs.Lost.{IsOnce}
 use Rattle.dir_writes.proofs.SlotNames as slots
 use Rattle.dir_writes.proofs.SlotNames.{relaid, some_at}
-use Rattle.dir_writes.proofs.OnePlace.{elsewhere, held_by, nothing_else, once_there}
-use Rattle.dir_writes.proofs.OnePlace.{one_index, own_part}
+use Rattle.dir_writes.proofs.OneIndex.{elsewhere, held_by, nothing_else, once_there}
+use Rattle.dir_writes.proofs.OneIndex.{one_index, own_part}
 
 take_none : (xs : List ℕ) → take 0 xs ≡ []
 take_none [] = refl

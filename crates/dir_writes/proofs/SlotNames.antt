@@ -16,7 +16,7 @@ use Rattle.layout.specs.declared.geometry.Geometry.{Geometry}
 use Rattle.layout.specs.declared.inode.Inode.{Inode}
 use Rattle.layout.specs.declared.slot.Slot.{Slot}
 use Rattle.layout.specs.declared.slot.TheConstants.{SLOT_BYTES}
-use Rattle.layout.specs.Decode.{IsDirectory, bytes_of, content_of, entries_in, entry_in, is_used_pointer, named_in}
+use Rattle.layout.specs.Decode.{IsDirectory, bytes_of, content_of, entries_in, dirent_in, is_used_pointer, named_in}
 use Rattle.layout.specs.Decode.{numbers_of, pointer_blocks}
 use Rattle.layout.specs.Decode.{slot_bytes, slots_of, span_of}
 use Rattle.layout.specs.InodeForm.{is_data_block_or_none, names_first}
@@ -27,9 +27,9 @@ use Rattle.layout.proofs.Written.{not_same}
 use Rattle.inode.proofs.AllTests.{all_two}
 use Rattle.dir.specs.Slots.{Lying, slot_at}
 use Rattle.dir.proofs.FoundIn.{entries}
-use Rattle.inode_data.proofs.Owned.{each_place, used_alike}
+use Rattle.inode_data.proofs.Owned.{each_index_within, used_alike}
 use Rattle.dir_writes.specs.Clearing.{HasOnce, slot_block}
-use Rattle.dir_writes.specs.Slotting.{slotted}
+use Rattle.dir_writes.specs.SlotWrites.{slotted}
 use Rattle.dir_writes.proofs.Lost.{IsOnce}
 use Rattle.dir_writes.proofs.SlotPut.{itself, other_block, others}
 
@@ -50,7 +50,7 @@ pub alike_entries : (lies other : Lying) (a n : ℕ) → ((k : ℕ) → a ≤ k 
     → entries lies a n ≡ entries other a n
 alike_entries lies other a zero same = refl
 alike_entries lies other a (suc n) same = λ i.
-    cons_option (entry_in a (same a (omega arith) (omega arith) i))
+    cons_option (dirent_in a (same a (omega arith) (omega arith) i))
     (alike_entries lies other (a + 1) n (λ k low less. same k (omega (arith, low)) (omega (arith, less))) i)
 
 -- slots of which one is now this
@@ -98,23 +98,23 @@ module _ (g : Geometry) (content : Image) (inode : Inode) (s : ℕ) (bytes : Lis
   within : s / SLOTS_PER_BLOCK < length spanned
   within = let all = spanned_long in let low = index in omega (arith, all, low)
 
-  alone : (j : ℕ) → j < length spanned → get_or spanned j 0 ≡ b → j ≡ s / SLOTS_PER_BLOCK
-  alone j low e =
+  exclusives : (j : ℕ) → j < length spanned → get_or spanned j 0 ≡ b → j ≡ s / SLOTS_PER_BLOCK
+  exclusives j low e =
       let all = spanned_long in let first = index in
       once.index j (s / SLOTS_PER_BLOCK) (omega (arith, low, all, spans)) (omega (arith, first, spans))
       (sym (get_or-take (span_of inode) numbers j 0 (omega (arith, low, all))) ∙ e) refl
 
-  pointers_kept : ArePointersSame content after (pointer_blocks content inode)
-  pointers_kept =
-      each_place (λ number. nat_eq number 0 ≡ false → after number ≡ content number) (pointer_blocks content inode)
-      (λ i low mapped. other_block content spanned s b bytes count long b_is some within alone
+  pointers_preserved : ArePointersSame content after (pointer_blocks content inode)
+  pointers_preserved =
+      each_index_within (λ number. nat_eq number 0 ≡ false → after number ≡ content number) (pointer_blocks content inode)
+      (λ i low mapped. other_block content spanned s b bytes count long b_is some within exclusives
       (get_or (pointer_blocks content inode) i 0) (once.pointer i low))
 
   pub same_numbers : numbers_of after inode ≡ numbers
-  same_numbers = (changed.same_numbers content after inode pointers_kept).0
+  same_numbers = (changed.same_numbers content after inode pointers_preserved).0
 
   pub same_pointers : pointer_blocks after inode ≡ pointer_blocks content inode
-  same_pointers = (changed.same_numbers content after inode pointers_kept).1
+  same_pointers = (changed.same_numbers content after inode pointers_preserved).1
 
   -- ---- its slots
 
@@ -134,12 +134,12 @@ module _ (g : Geometry) (content : Image) (inode : Inode) (s : ℕ) (bytes : Lis
     | inl same ↦
         ap (λ j. slot_at g.inodes after inode j) same
         ∙ ap (read_slot g.inodes) (bytes_after s
-        ∙ itself content spanned s b bytes count long b_is some within alone)
+        ∙ itself content spanned s b bytes count long b_is some within exclusives)
         ∙ reads
         ∙ sym (ap (λ t. cond t (Ok read) (lies k)) (eq-eqb k s same))
     | inr differ ↦
         ap (read_slot g.inodes) (bytes_after k
-        ∙ others content spanned s b bytes count long b_is some within alone k
+        ∙ others content spanned s b bytes count long b_is some within exclusives k
         (let all = spanned_long in omega (arith, low, all)) differ ∙ sym (bytes_before k))
         ∙ sym (ap (λ t. cond t (Ok read) (lies k)) (not_same k s differ))
   ]
@@ -185,7 +185,7 @@ module _ (g : Geometry) (content : Image) (inode : Inode) (s : ℕ) (bytes : Lis
       numbers = ap (list_all (is_data_block_or_none g)) same_numbers ∙ dir.mapped.numbers;
       used = ap (list_all (is_used_pointer after)) same_pointers
           ∙ used_alike content after (pointer_blocks content inode)
-          (changed.same_pointers content after (pointer_blocks content inode) pointers_kept) ∙ dir.mapped.used;
+          (changed.same_pointers content after (pointer_blocks content inode) pointers_preserved) ∙ dir.mapped.used;
     };
     spans = ap (names_first (span_of inode)) same_numbers ∙ dir.spans;
     slots = All-from_get_or (λ k. IsOk (read_slot g.inodes (slot_bytes after inode k))) (slots_of inode) 0

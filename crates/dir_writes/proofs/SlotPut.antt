@@ -25,14 +25,14 @@ module _ (content : Image) (numbers : List ℕ) (s b : ℕ) (bytes : List ℕ) (
   abbrev after : Image
   after = put content b (spliced (content b) offset bytes)
 
-  room : offset + length bytes ≤ length (content b)
-  room = let all = long b in let few = count in omega (arith, all, few)
+  has_space : offset + length bytes ≤ length (content b)
+  has_space = let all = long b in let few = count in omega (arith, all, few)
 
   long_after : (n : ℕ) → length (after n) ≡ BLOCK_BYTES
   long_after n = by_test (nat_eq n b)
     where
       by_test : (t : Bool) → length (cond t (spliced (content b) offset bytes) (content n)) ≡ BLOCK_BYTES
-      by_test true = splices.spliced-length (content b) bytes offset room ∙ long b
+      by_test true = splices.spliced-length (content b) bytes offset has_space ∙ long b
       by_test false = long n
 
   abbrev part : Image → ℕ → List ℕ
@@ -41,13 +41,13 @@ module _ (content : Image) (numbers : List ℕ) (s b : ℕ) (bytes : List ℕ) (
   abbrev piece : List ℕ → ℕ → List ℕ
   piece block k = take SLOT_BYTES (drop (SLOT_BYTES * (k % SLOTS_PER_BLOCK)) block)
 
-  at_place : (c : Image) → ((n : ℕ) → length (c n) ≡ BLOCK_BYTES) → (k : ℕ)
+  at_slot_within : (c : Image) → ((n : ℕ) → length (c n) ≡ BLOCK_BYTES) → (k : ℕ)
       → k / SLOTS_PER_BLOCK < length numbers
       → part c k ≡ piece (content_of c (get_or numbers (k / SLOTS_PER_BLOCK) 0)) k
-  at_place c longs k less =
-      let place : SLOT_BYTES * k ≡ BLOCK_BYTES * (k / SLOTS_PER_BLOCK) + SLOT_BYTES * (k % SLOTS_PER_BLOCK) =
+  at_slot_within c longs k less =
+      let offsets_agree : SLOT_BYTES * k ≡ BLOCK_BYTES * (k / SLOTS_PER_BLOCK) + SLOT_BYTES * (k % SLOTS_PER_BLOCK) =
       omega arith in
-      ap (λ p. take SLOT_BYTES (drop p (flat_map (content_of c) numbers))) place
+      ap (λ p. take SLOT_BYTES (drop p (flat_map (content_of c) numbers))) offsets_agree
       ∙ in_block c longs numbers (k / SLOTS_PER_BLOCK) (SLOT_BYTES * (k % SLOTS_PER_BLOCK)) SLOT_BYTES less
       (omega arith)
 
@@ -63,17 +63,17 @@ module _ (content : Image) (numbers : List ℕ) (s b : ℕ) (bytes : List ℕ) (
 
   pub itself : part after s ≡ bytes
   itself =
-      at_place after long_after s within ∙ ap (λ n. piece (content_of after n) s) (sym b_is)
+      at_slot_within after long_after s within ∙ ap (λ n. piece (content_of after n) s) (sym b_is)
       ∙ ap (λ block. piece block s) here
       ∙ ap (λ n. take n (drop offset (spliced (content b) offset bytes))) (sym count)
-      ∙ splices.there (content b) bytes offset room
+      ∙ splices.there (content b) bytes offset has_space
 
-  beside : (k : ℕ) → k / SLOTS_PER_BLOCK ≡ s / SLOTS_PER_BLOCK → (k ≡ s → ⊥)
+  log_unchanged : (k : ℕ) → k / SLOTS_PER_BLOCK ≡ s / SLOTS_PER_BLOCK → (k ≡ s → ⊥)
       → piece (spliced (content b) offset bytes) k ≡ piece (content b) k
-  beside k same not = elim (cases_lt (k % SLOTS_PER_BLOCK) (s % SLOTS_PER_BLOCK)) [
-    | inl low ↦ splices.ahead (content b) bytes offset room (SLOT_BYTES * (k % SLOTS_PER_BLOCK)) SLOT_BYTES
+  log_unchanged k same not = elim (cases_lt (k % SLOTS_PER_BLOCK) (s % SLOTS_PER_BLOCK)) [
+    | inl low ↦ splices.ahead (content b) bytes offset has_space (SLOT_BYTES * (k % SLOTS_PER_BLOCK)) SLOT_BYTES
         (omega (arith, low))
-    | inr high ↦ splices.behind (content b) bytes offset room (SLOT_BYTES * (k % SLOTS_PER_BLOCK)) SLOT_BYTES
+    | inr high ↦ splices.behind (content b) bytes offset has_space (SLOT_BYTES * (k % SLOTS_PER_BLOCK)) SLOT_BYTES
         (let few = count in
         let more : s % SLOTS_PER_BLOCK + 1 ≤ k % SLOTS_PER_BLOCK =
         later (s % SLOTS_PER_BLOCK) (k % SLOTS_PER_BLOCK) high (λ is. not (omega (arith, is, same))) in
@@ -89,7 +89,7 @@ module _ (content : Image) (numbers : List ℕ) (s b : ℕ) (bytes : List ℕ) (
   at_index k less not = elim (cases_eq (k / SLOTS_PER_BLOCK) (s / SLOTS_PER_BLOCK)) [
     | inl same ↦
         let is : get_or numbers (k / SLOTS_PER_BLOCK) 0 ≡ b = ap (λ j. get_or numbers j 0) same ∙ sym b_is in
-        ap (λ n. piece (content_of after n) k) is ∙ ap (λ block. piece block k) here ∙ beside k same not
+        ap (λ n. piece (content_of after n) k) is ∙ ap (λ block. piece block k) here ∙ log_unchanged k same not
         ∙ ap (λ block. piece block k) (sym before) ∙ ap (λ n. piece (content_of content n) k) (sym is)
     | inr differ ↦
         ap (λ block. piece (cond (nat_eq (get_or numbers (k / SLOTS_PER_BLOCK) 0) 0) (replicate BLOCK_BYTES 0)
@@ -99,4 +99,4 @@ module _ (content : Image) (numbers : List ℕ) (s b : ℕ) (bytes : List ℕ) (
 
   pub others : (k : ℕ) → k / SLOTS_PER_BLOCK < length numbers → (k ≡ s → ⊥) → part after k ≡ part content k
   others k less not =
-      at_place after long_after k less ∙ at_index k less not ∙ sym (at_place content long k less)
+      at_slot_within after long_after k less ∙ at_index k less not ∙ sym (at_slot_within content long k less)

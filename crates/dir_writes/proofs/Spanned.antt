@@ -5,7 +5,7 @@ use Rattle.disk.specs.Crash.{Image}
 use Rattle.nfs_spec.specs.Model.Names.{is_directory}
 use Rattle.nfs_spec.specs.Model.Node.{Node}
 use Rattle.nfs_spec.specs.Model.Tree.{Tree, node_at}
-use Rattle.procs_files.specs.Changing.{spanned}
+use Rattle.procs_files.specs.Writable.{spanned}
 use Rattle.layout.specs.declared.geometry.Geometry.{Geometry}
 use Rattle.layout.specs.declared.inode.Inode.{Inode}
 use Rattle.layout.specs.declared.inode.InodeKind.{InodeKind}

@@ -17,7 +17,7 @@ use Rattle.layout.specs.Parts.{Parts, content_in, parts_of, put, with_bytes, wit
 use Rattle.layout.specs.Places.{is_data}
 use Rattle.bitmap.specs.NewBlock.{HasTaken, marking}
 use Rattle.bitmap.proofs.Gained.{grown}
-use Rattle.inode_data.proofs.ImageWritten.{AreBlocks, block_parts, blocks_kept, inode_kept, inode_parts}
+use Rattle.inode_data.proofs.ImageWritten.{AreBlocks, block_parts, blocks_preserved, inode_preserved, inode_parts}
 
 module _ (g : Geometry) (base : Image) (tree next : Tree) (n : ℕ) (less : n < g.inodes) (new : Inode)
     (sound : SoundInode g new) (gained : List ℕ) (middle : Image) (taken : HasTaken g base tree gained middle)
@@ -37,7 +37,7 @@ module _ (g : Geometry) (base : Image) (tree next : Tree) (n : ℕ) (less : n < 
 
       holds : PartsHold g (grown g base n new content gained) next → Holds g (with_inode g image n new) next
       holds parts = record {
-        bytes = inode_kept g image n new blocks less sound;
+        bytes = inode_preserved g image n new blocks less sound;
         parts = subst (λ one. PartsHold g one next) (sym all_parts) parts;
       }
 
@@ -57,46 +57,46 @@ module _ (g : Geometry) (base : Image) (tree next : Tree) (n : ℕ) (less : n < 
     one_part = block_parts g middle b bytes are lies count
         ∙ (λ i. record (taken.parts i) { content = put (taken.parts i).content b bytes })
 
-    one_kept : AreBlocks g (with_bytes middle b 0 bytes)
-    one_kept = blocks_kept g middle b bytes are lies count each
+    one_preserved : AreBlocks g (with_bytes middle b 0 bytes)
+    one_preserved = blocks_preserved g middle b bytes are lies count each
 
     pub one_holds : PartsHold g (grown g base n new (put (content_in g base) b bytes) gained) next
         → Holds g (with_inode g (with_bytes middle b 0 bytes) n new) next
-    one_holds = holds (with_bytes middle b 0 bytes) (put (content_in g base) b bytes) one_kept one_part
+    one_holds = holds (with_bytes middle b 0 bytes) (put (content_in g base) b bytes) one_preserved one_part
 
     pub one_read : inode_at g (with_inode g (with_bytes middle b 0 bytes) n new) n ≡ Ok (Some new)
-    one_read = read (with_bytes middle b 0 bytes) (put (content_in g base) b bytes) one_kept one_part
+    one_read = read (with_bytes middle b 0 bytes) (put (content_in g base) b bytes) one_preserved one_part
 
-    module _ (far : ℕ) (named : List ℕ) (far_lies : is_data g far ≡ true) (named_count : length named ≡ BLOCK_BYTES)
+    module _ (indirect_block : ℕ) (named : List ℕ) (indirect_lies : is_data g indirect_block ≡ true) (named_count : length named ≡ BLOCK_BYTES)
         (named_each : AreBytes named) where
       abbrev both : Image
-      both = with_bytes (with_bytes middle far 0 named) b 0 bytes
+      both = with_bytes (with_bytes middle indirect_block 0 named) b 0 bytes
 
-      first_part : parts_of g (with_bytes middle far 0 named)
+      first_part : parts_of g (with_bytes middle indirect_block 0 named)
           ≡ record (parts_of g base) {
-            content = put (content_in g base) far named;
+            content = put (content_in g base) indirect_block named;
             block_bits = marking gained (parts_of g base).block_bits;
           }
-      first_part = block_parts g middle far named are far_lies named_count
-          ∙ (λ i. record (taken.parts i) { content = put (taken.parts i).content far named })
+      first_part = block_parts g middle indirect_block named are indirect_lies named_count
+          ∙ (λ i. record (taken.parts i) { content = put (taken.parts i).content indirect_block named })
 
-      first_kept : AreBlocks g (with_bytes middle far 0 named)
-      first_kept = blocks_kept g middle far named are far_lies named_count named_each
+      first_preserved : AreBlocks g (with_bytes middle indirect_block 0 named)
+      first_preserved = blocks_preserved g middle indirect_block named are indirect_lies named_count named_each
 
       both_parts : parts_of g both
           ≡ record (parts_of g base) {
-            content = put (put (content_in g base) far named) b bytes;
+            content = put (put (content_in g base) indirect_block named) b bytes;
             block_bits = marking gained (parts_of g base).block_bits;
           }
-      both_parts = block_parts g (with_bytes middle far 0 named) b bytes first_kept lies count
+      both_parts = block_parts g (with_bytes middle indirect_block 0 named) b bytes first_preserved lies count
           ∙ (λ i. record (first_part i) { content = put (first_part i).content b bytes })
 
-      both_kept : AreBlocks g both
-      both_kept = blocks_kept g (with_bytes middle far 0 named) b bytes first_kept lies count each
+      both_preserved : AreBlocks g both
+      both_preserved = blocks_preserved g (with_bytes middle indirect_block 0 named) b bytes first_preserved lies count each
 
-      pub both_hold : PartsHold g (grown g base n new (put (put (content_in g base) far named) b bytes) gained) next
+      pub both_hold : PartsHold g (grown g base n new (put (put (content_in g base) indirect_block named) b bytes) gained) next
           → Holds g (with_inode g both n new) next
-      both_hold = holds both (put (put (content_in g base) far named) b bytes) both_kept both_parts
+      both_hold = holds both (put (put (content_in g base) indirect_block named) b bytes) both_preserved both_parts
 
       pub both_read : inode_at g (with_inode g both n new) n ≡ Ok (Some new)
-      both_read = read both (put (put (content_in g base) far named) b bytes) both_kept both_parts
+      both_read = read both (put (put (content_in g base) indirect_block named) b bytes) both_preserved both_parts

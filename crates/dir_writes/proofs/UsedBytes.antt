@@ -19,11 +19,11 @@ zero_bytes (suc n) (suc index) = zero_bytes n index
 pub used_long : (slot : Slot) → length slot.name ≤ NAME_BYTES → length (used_bytes slot) ≡ SLOT_BYTES
 unfolding four_bytes
 used_long slot short =
-    let front = four_bytes slot.number ++ four_bytes (length slot.name) in
+    let leading = four_bytes slot.number ++ four_bytes (length slot.name) in
     let zeros : List ℕ = replicate (SLOT_BYTES - 8 - length slot.name) 0 in
-    let eight : length front ≡ 8 = refl in
-    let named = length-append front slot.name in
-    let all = length-append (front ++ slot.name) zeros in
+    let eight : length leading ≡ 8 = refl in
+    let named = length-append leading slot.name in
+    let all = length-append (leading ++ slot.name) zeros in
     let rest = length-replicate {A = ℕ} (SLOT_BYTES - 8 - length slot.name) 0 in
     omega (arith, eight, named, all, rest, short)
 

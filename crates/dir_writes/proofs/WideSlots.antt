@@ -3,7 +3,7 @@ use Rattle.std.proofs.Common.{◌≡◌, ℕ, zero, suc, ◌+◌, ◌<◌, ◌�
 use Rattle.std.proofs.Common.{[], None, Ok, arith}
 use Rattle.std.specs.List.{cons_option}
 use Rattle.std.proofs.lemmas.Bool.{le-ltb, lt-ltb}
-use Rattle.layout.specs.Decode.{entry_in}
+use Rattle.layout.specs.Decode.{dirent_in}
 use Rattle.dir.specs.Slots.{Lying}
 use Rattle.dir.proofs.FoundIn.{entries}
 
@@ -21,7 +21,7 @@ module _ (lies : Lying) (end : ℕ) where
   none_more : (a m : ℕ) → end ≤ a → entries (widened lies end) a m ≡ []
   none_more a zero more = refl
   none_more a (suc m) more = λ i.
-      cons_option (entry_in a (past a more i)) (none_more (a + 1) m (omega (arith, more)) i)
+      cons_option (dirent_in a (past a more i)) (none_more (a + 1) m (omega (arith, more)) i)
 
   pub as_many : (a n m : ℕ) → a + n ≡ end → entries (widened lies end) a (n + m) ≡ entries lies a n
   as_many a zero m e = ap (entries (widened lies end) a) (plus m) ∙ none_more a m (omega (arith, e))
@@ -30,7 +30,7 @@ module _ (lies : Lying) (end : ℕ) where
       plus m = omega arith
   as_many a (suc n) m e =
       ap (entries (widened lies end) a) (plus n m)
-      ∙ (λ i. cons_option (entry_in a (within a (omega (arith, e)) i)) (as_many (a + 1) n m (omega (arith, e)) i))
+      ∙ (λ i. cons_option (dirent_in a (within a (omega (arith, e)) i)) (as_many (a + 1) n m (omega (arith, e)) i))
     where
       plus : (n m : ℕ) → suc n + m ≡ suc (n + m)
       plus n m = omega arith

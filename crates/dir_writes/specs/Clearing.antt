@@ -9,7 +9,7 @@ use Rattle.layout.specs.Decode.{numbers_of, pointer_blocks}
 use Rattle.layout.specs.declared.geometry.Geometry.{Geometry}
 use Rattle.layout.specs.Parts.{content_in, put, with_bytes}
 use Rattle.nfs_spec.specs.Model.Node.{Node}
-use Rattle.nfs_spec.specs.Procedures.Changes.{without_entry}
+use Rattle.nfs_spec.specs.Procedures.Changes.{without_dirent}
 
 -- the block in which a slot lies
 abbrev pub slot_block : Image → Inode → ℕ → ℕ
@@ -32,7 +32,7 @@ pub record HasOnce (content : Image) (inode : Inode) (block : ℕ) : Type 0 wher
 
 -- the file without the name
 abbrev pub without_name : List ℕ → Node → Node
-without_name name node = record node { body = without_entry name node.body }
+without_name name node = record node { body = without_dirent name node.body }
 
 -- the bytes of the block in which the slot lies, with the slot cleared
 abbrev pub cleared_bytes : Image → Inode → ℕ → List ℕ

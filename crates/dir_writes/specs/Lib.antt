@@ -1,4 +1,4 @@
 pub mod Clearing
-pub mod Slotting
-pub mod Entering
+pub mod SlotWrites
+pub mod NameInsertion
 pub mod Growing

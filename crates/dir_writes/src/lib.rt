@@ -1,12 +1,12 @@
 //! Names that come into directories and go.
 #![tactic(auto)]
 
-mod entering;
-mod growing;
-mod laws;
-mod losing;
-mod slotting;
+mod growth;
+mod insertion;
+mod slot_laws;
+mod slot_writes;
+mod unlink;
 
-pub use entering::enter;
-pub use laws::{a_cleared_slot_loses_its_name, a_filled_slot_gains_its_name};
-pub use losing::lose;
+pub use insertion::enter;
+pub use slot_laws::{a_cleared_slot_loses_its_name, a_filled_slot_gains_its_name};
+pub use unlink::lose;

@@ -18,8 +18,8 @@ zeros_below (suc count) (suc index) = zeros_below count index
 pub zeros_block : IsBlock (replicate BLOCK_BYTES 0)
 zeros_block = (length-replicate {A = ℕ} BLOCK_BYTES 0, zeros_below BLOCK_BYTES)
 
-alone : (content : Content) → IsBlock content → AreContents (content ∷ [])
-alone content is = (omega arith, All-cons IsBlock content [] is (All-nil IsBlock))
+single_content : (content : Content) → IsBlock content → AreContents (content ∷ [])
+single_content content is = (omega arith, All-cons IsBlock content [] is (All-nil IsBlock))
 
 picked : (index : ℕ) (contents : List Content) → AreContents contents → IsBlock (pick index contents)
 picked index contents are =
@@ -34,5 +34,5 @@ chosen_whole digits (contents ∷ rest) are =
     let (index, left, e) = chosen_cons digits contents rest in
     subst (λ (image : List Content). All AreContents (map (λ c. c ∷ []) image)) (sym e)
     (All-cons AreContents (pick index contents ∷ []) (map (λ c. c ∷ []) (chosen left rest))
-    (alone (pick index contents) (picked index contents (All-head AreContents contents rest are)))
+    (single_content (pick index contents) (picked index contents (All-head AreContents contents rest are)))
     (chosen_whole left rest (All-tail AreContents contents rest are)))

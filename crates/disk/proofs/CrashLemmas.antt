@@ -25,37 +25,37 @@ chosen_cons digits contents rest =
     else pick 0 contents ∷ chosen digits rest) ≡ pick index contents ∷ chosen left rest))
     [ true ↦ (slice_index digits 0, drop 1 digits, refl) | false ↦ (0, digits, refl) ]
 
-abbrev alone : List Content → Blocks
-alone image = map (λ c. c ∷ []) image
+abbrev single_content : List Content → Blocks
+single_content image = map (λ c. c ∷ []) image
 
 chosen_at : (digits : List ℕ) (now : Blocks) (block : ℕ) → block < length now
     → 0 < length (get_or now block [])
-    → Contains (get_or now block []) (newest (get_or (alone (chosen digits now)) block []))
+    → Contains (get_or now block []) (newest (get_or (single_content (chosen digits now)) block []))
 chosen_at digits [] block h some = absurd (omega (arith, h))
 chosen_at digits (contents ∷ rest) zero h some =
     let (index, left, e) = chosen_cons digits contents rest in
-    subst (λ (image : List Content). Contains contents (newest (get_or (alone image) 0 []))) (sym e)
+    subst (λ (image : List Content). Contains contents (newest (get_or (single_content image) 0 []))) (sym e)
     (picked index contents some)
 chosen_at digits (contents ∷ rest) (suc block) h some =
     let (index, left, e) = chosen_cons digits contents rest in
     subst (λ (image : List Content). Contains (get_or rest block [])
-    (newest (get_or (alone image) (suc block) []))) (sym e)
+    (newest (get_or (single_content image) (suc block) []))) (sym e)
     (chosen_at left rest block (omega (arith, h)) some)
 
 pub chosen_image : (digits : List ℕ) (now : Blocks) (past : Past)
     → ((block : ℕ) → block < length now → 0 < length (get_or now block []))
     → IsCrashImage (device_of now past) (length past)
-    (λ block. newest (current (device_of (alone (chosen digits now)) []) block))
+    (λ block. newest (current (device_of (single_content (chosen digits now)) []) block))
 chosen_image digits now past some block h =
     subst (λ (contents : List Content). Contains contents
-    (newest (get_or (alone (chosen digits now)) block []))) (sym (current_now now past block))
+    (newest (get_or (single_content (chosen digits now)) block []))) (sym (current_now now past block))
     (chosen_at digits now block h (some block h))
 
-alone_one : (image : List Content) (block : ℕ) → block < length (alone image)
-    → length (get_or (alone image) block []) ≡ 1
-alone_one [] block h = absurd (omega (arith, h))
-alone_one (c ∷ image) zero h = refl
-alone_one (c ∷ image) (suc block) h = alone_one image block (omega (arith, h))
+single_content_each : (image : List Content) (block : ℕ) → block < length (single_content image)
+    → length (get_or (single_content image) block []) ≡ 1
+single_content_each [] block h = absurd (omega (arith, h))
+single_content_each (c ∷ image) zero h = refl
+single_content_each (c ∷ image) (suc block) h = single_content_each image block (omega (arith, h))
 
-pub alone_at_rest : (image : List Content) → IsAtRest (device_of (alone image) [])
-alone_at_rest image = record { one = alone_one image; unspoiled = λ block. refl }
+pub single_content_at_rest : (image : List Content) → IsAtRest (device_of (single_content image) [])
+single_content_at_rest image = record { one = single_content_each image; certain = λ block. refl }

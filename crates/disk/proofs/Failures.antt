@@ -8,17 +8,17 @@ use Rattle.disk.specs.Device.{Device, OneLater}
 use Rattle.disk.specs.Failures.{failures_from, CountsFailures}
 
 -- what is told of a list's members stays where one more comes,
-pub told_before : {X : Type 0} (p : X → Bool) (xs : List X) (x : X) (at : ℕ) → at < length xs
+pub earlier_answers_stay : {X : Type 0} (p : X → Bool) (xs : List X) (x : X) (at : ℕ) → at < length xs
     → slice_index_or (map p (xs ++ x ∷ [])) at false ≡ slice_index_or (map p xs) at false
-told_before p [] x at h = absurd (omega (arith, h))
-told_before p (e ∷ xs) x zero h = refl
-told_before p (e ∷ xs) x (suc at) h = told_before p xs x at (omega (arith, h))
+earlier_answers_stay p [] x at h = absurd (omega (arith, h))
+earlier_answers_stay p (e ∷ xs) x zero h = refl
+earlier_answers_stay p (e ∷ xs) x (suc at) h = earlier_answers_stay p xs x at (omega (arith, h))
 
 -- and of that one it is told behind them
-pub told_last : {X : Type 0} (p : X → Bool) (xs : List X) (x : X)
+pub last_answer_stays : {X : Type 0} (p : X → Bool) (xs : List X) (x : X)
     → slice_index_or (map p (xs ++ x ∷ [])) (length xs) false ≡ p x
-told_last p [] x = refl
-told_last p (e ∷ xs) x = told_last p xs x
+last_answer_stays p [] x = refl
+last_answer_stays p (e ∷ xs) x = last_answer_stays p xs x
 
 -- as many failed where the same calls did
 pub same_failures : (one other : ℕ → Bool) (first count : ℕ)

@@ -7,7 +7,7 @@ use Rattle.std.proofs.lemmas.List.Folds.{list_any-append}
 use Rattle.std.proofs.lemmas.List.Sums.{sum_by-append}
 use Rattle.std.proofs.Math.Bool.{or-false}
 use Rattle.std.proofs.lemmas.Bool.{true≢false, false≢true}
-use Rattle.disk.specs.Device.{is_on, newest_alone}
+use Rattle.disk.specs.Device.{is_on, newest_only}
 use Rattle.std.specs.Prelude.{count_by}
 use Rattle.std.specs.List.{list_any}
 use Rattle.disk.specs.declared.device.Failed.{Failed}
@@ -18,9 +18,9 @@ use Rattle.disk.specs.declared.call_record.Call.TheVariants.{Read, Write, Barrie
 use Rattle.disk.specs.declared.call_record.CallRecord.{CallRecord}
 use Rattle.disk.specs.Device.{Content, Device, current, OneLater, CountsFailure, HasRead, HasWritten}
 use Rattle.disk.specs.Device.{HasSettled, Appends, Settles}
-use Rattle.disk.specs.CallRecord.{is_failure, is_lost, spoils}
+use Rattle.disk.specs.CallRecord.{is_failure, is_lost, makes_uncertain}
 use Rattle.disk.specs.Memory.{Blocks, Past, held_at, device_of}
-use Rattle.disk.proofs.Failures.{told_before, told_last}
+use Rattle.disk.proofs.Failures.{earlier_answers_stay, last_answer_stays}
 
 held_before : (now new : Blocks) (past : Past) (n : CallRecord) (clock : ℕ) → clock ≤ length past
     → held_at new (past ++ (now, n) ∷ []) clock ≡ held_at now past clock
@@ -47,11 +47,11 @@ later now new past n same = record {
   size = same;
   clock = length-append past ((now, n) ∷ []);
   past = λ clock block h. ap (λ (bs : Blocks). get_or bs block []) (held_before now new past n clock h);
-  failed = λ call h. told_before (λ e. is_failure e.1) past (now, n) call h;
-  lost = λ call h. told_before (λ e. is_lost e.1.call e.1.result) past (now, n) call h;
+  failed = λ call h. earlier_answers_stay (λ e. is_failure e.1) past (now, n) call h;
+  lost = λ call h. earlier_answers_stay (λ e. is_lost e.1.call e.1.result) past (now, n) call h;
   counted = counted (λ e. is_failure e.1) past (now, n)
       ∙ ap (λ (b : Bool). count_by (λ e. is_failure e.1) past + cond b 1 0)
-      (sym (told_last (λ e. is_failure e.1) past (now, n)));
+      (sym (last_answer_stays (λ e. is_failure e.1) past (now, n)));
 }
 
 -- the contents after one more call are the new ones
@@ -92,10 +92,10 @@ has_read now past b r =
     let n : CallRecord = record { call = Read b; result = r } in
     record {
       later = later now now past n refl;
-      lost = told_last (λ e. is_lost e.1.call e.1.result) past (now, n);
+      lost = last_answer_stays (λ e. is_lost e.1.call e.1.result) past (now, n);
       contents = λ block. current_after now now past n block ∙ sym (current_now now past block);
-      spoiled = λ block. any_after (λ e. spoils block e.1) past (now, n)
-          ∙ no_write (list_any (λ e. spoils block e.1) past) r;
+      uncertain = λ block. any_after (λ e. makes_uncertain block e.1) past (now, n)
+          ∙ no_write (list_any (λ e. makes_uncertain block e.1) past) r;
     }
 
 appends : (old old' new new' : List Content) (content : Content) (r : Result Unit Failed) → old' ≡ old
@@ -114,19 +114,19 @@ has_written now new past b content r same h others =
     let n : CallRecord = record { call = Write b; result = r } in
     record {
       later = later now new past n same;
-      lost = told_last (λ e. is_lost e.1.call e.1.result) past (now, n);
+      lost = last_answer_stays (λ e. is_lost e.1.call e.1.result) past (now, n);
       written = appends (get_or now b.0 []) (current (device_of now past) b.0) (get_or new b.0 [])
           (current (device_of new (past ++ (now, n) ∷ [])) b.0) content r (current_now now past b.0)
           (current_after now new past n b.0) h;
       others = λ other ne. current_after now new past n other ∙ others other ne
           ∙ sym (current_now now past other);
-      spoiled = λ block. any_after (λ e. spoils block e.1) past (now, n);
+      uncertain = λ block. any_after (λ e. makes_uncertain block e.1) past (now, n);
     }
 
 settles : (side : Side) (block : ℕ) (old old' new new' : List Content) (r : Result Unit Failed) → old' ≡ old
     → new' ≡ new → Settles side block old r new → Settles side block old' r new'
 settles side block old old' new new' (Ok u) e f h = f ∙ h
-    ∙ ap (λ (l : List Content). if is_on side block then newest_alone l else l) (sym e)
+    ∙ ap (λ (l : List Content). if is_on side block then newest_only l else l) (sym e)
 settles side block old old' new new' (Err u) e f h = f ∙ h ∙ sym e
 
 pub has_settled : (now new : Blocks) (past : Past) (side : Side) (r : Result Unit Failed)
@@ -138,16 +138,16 @@ has_settled now new past side r same h =
     let n : CallRecord = record { call = Barrier side; result = r } in
     record {
       later = later now new past n same;
-      lost = told_last (λ e. is_lost e.1.call e.1.result) past (now, n);
+      lost = last_answer_stays (λ e. is_lost e.1.call e.1.result) past (now, n);
       contents = λ block. settles side block (get_or now block []) (current (device_of now past) block)
           (get_or new block []) (current (device_of new (past ++ (now, n) ∷ [])) block) r
           (current_now now past block) (current_after now new past n block) (h block);
-      spoiled = λ block. any_after (λ e. spoils block e.1) past (now, n)
-          ∙ no_write (list_any (λ e. spoils block e.1) past) r;
+      uncertain = λ block. any_after (λ e. makes_uncertain block e.1) past (now, n)
+          ∙ no_write (list_any (λ e. makes_uncertain block e.1) past) r;
     }
 
 pub settles_if_ok : (side : Side) (block : ℕ) (old new : List Content) (r : Result Unit Failed)
-    → is_ok r ≡ true → new ≡ (if is_on side block then newest_alone old else old)
+    → is_ok r ≡ true → new ≡ (if is_on side block then newest_only old else old)
     → Settles side block old r new
 settles_if_ok side block old new (Ok u) h e = e
 settles_if_ok side block old new (Err u) h e = absurd (false≢true h)

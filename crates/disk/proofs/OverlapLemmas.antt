@@ -12,7 +12,7 @@ use Rattle.base.specs.declared.TheConstants.{LOG_HEADER_BLOCK, START_BLOCK}
 use Rattle.disk.specs.declared.block.Side.{Side}
 use Rattle.disk.specs.declared.block.Side.TheVariants.{Log, Home}
 use Rattle.disk.specs.declared.device.Failed.{Failed}
-use Rattle.disk.specs.Device.{Content, Device, current, newest, newest_alone, side_of, is_on, OneLater}
+use Rattle.disk.specs.Device.{Content, Device, current, newest, newest_only, side_of, is_on, OneLater}
 use Rattle.disk.specs.Device.{CountsFailure, Appends, Settles}
 use Rattle.disk.specs.Overlap.{DeviceCall, reads, writes, settles, Brings, Makes, MayOverlap, Alike, Swapped}
 
@@ -22,11 +22,11 @@ touches (reads block bytes) k = false
 touches (writes block bytes) k = nat_eq k block
 touches (settles side) k = is_on side k
 
--- the blocks that the call spoils
-abbrev spoils : DeviceCall → Result Unit Failed → ℕ → Bool
-spoils (reads block bytes) r k = false
-spoils (writes block bytes) r k = is_err r && nat_eq k block
-spoils (settles side) r k = false
+-- the blocks that the call makes uncertain
+abbrev makes_uncertain : DeviceCall → Result Unit Failed → ℕ → Bool
+makes_uncertain (reads block bytes) r k = false
+makes_uncertain (writes block bytes) r k = is_err r && nat_eq k block
+makes_uncertain (settles side) r k = false
 
 -- the call is a write or a barrier that fails
 abbrev loses : DeviceCall → Result Unit Failed → Bool
@@ -38,7 +38,7 @@ loses (settles side) r = is_err r
 abbrev Leaves : DeviceCall → Result Unit Failed → List Content → List Content → Type 0
 Leaves (reads block bytes) r old new = new ≡ old
 Leaves (writes block bytes) r old new = Appends old bytes r new
-Leaves (settles side) (Ok _) old new = new ≡ newest_alone old
+Leaves (settles side) (Ok _) old new = new ≡ newest_only old
 Leaves (settles side) (Err _) old new = new ≡ old
 
 abbrev Answers : Device → DeviceCall → Result Unit Failed → Type 0
@@ -53,17 +53,17 @@ record Changes (old : Device) (call : DeviceCall) (r : Result Unit Failed) (new 
   lost : new.lost old.clock ≡ loses call r
   others : (k : ℕ) → touches call k ≡ false → current new k ≡ current old k
   own : (k : ℕ) → touches call k ≡ true → Leaves call r (current old k) (current new k)
-  spoiled : (k : ℕ) → new.spoiled k ≡ (old.spoiled k || spoils call r k)
+  uncertain : (k : ℕ) → new.uncertain k ≡ (old.uncertain k || makes_uncertain call r k)
   answer : Answers old call r
 
 settles_at : (side : Side) (k : ℕ) (r : Result Unit Failed) (old new : List Content) → is_on side k ≡ true
     → Settles side k old r new → Leaves (settles side) r old new
-settles_at side k (Ok u) old new on h = h ∙ ap (λ (t : Bool). if t then newest_alone old else old) on
+settles_at side k (Ok u) old new on h = h ∙ ap (λ (t : Bool). if t then newest_only old else old) on
 settles_at side k (Err u) old new on h = h
 
 settles_off : (side : Side) (k : ℕ) (r : Result Unit Failed) (old new : List Content) → is_on side k ≡ false
     → Settles side k old r new → new ≡ old
-settles_off side k (Ok u) old new off h = h ∙ ap (λ (t : Bool). if t then newest_alone old else old) off
+settles_off side k (Ok u) old new off h = h ∙ ap (λ (t : Bool). if t then newest_only old else old) off
 settles_off side k (Err u) old new off h = h
 
 settles_from : (side : Side) (k : ℕ) (r : Result Unit Failed) (old new : List Content)
@@ -71,8 +71,8 @@ settles_from : (side : Side) (k : ℕ) (r : Result Unit Failed) (old new : List 
     → Settles side k old r new
 settles_from side k (Ok u) old new off on =
     elim (cases_Bool (is_on side k)) [
-      | inl t ↦ on t ∙ sym (ap (λ (t : Bool). if t then newest_alone old else old) t)
-      | inr f ↦ off f ∙ sym (ap (λ (t : Bool). if t then newest_alone old else old) f)
+      | inl t ↦ on t ∙ sym (ap (λ (t : Bool). if t then newest_only old else old) t)
+      | inr f ↦ off f ∙ sym (ap (λ (t : Bool). if t then newest_only old else old) f)
     ]
 settles_from side k (Err u) old new off on = elim (cases_Bool (is_on side k)) [ inl t ↦ on t | inr f ↦ off f ]
 
@@ -84,7 +84,7 @@ changes old (reads block bytes) r new (read, failure, brings) = record {
   failure = failure;
   others = λ k h. read.contents k;
   own = λ k h. read.contents k;
-  spoiled = λ k. read.spoiled k ∙ sym (or-false (old.spoiled k));
+  uncertain = λ k. read.uncertain k ∙ sym (or-false (old.uncertain k));
   answer = brings;
 }
 changes old (writes block bytes) r new (write, failure) = record {
@@ -94,7 +94,7 @@ changes old (writes block bytes) r new (write, failure) = record {
   others = λ k h. write.others k (eqb-false k block h);
   own = λ k h. subst (λ (n : ℕ). Appends (current old n) bytes r (current new n)) (sym (eqb-true k block h))
       write.written;
-  spoiled = write.spoiled;
+  uncertain = write.uncertain;
   answer = tt;
 }
 changes old (settles side) r new (settle, failure) = record {
@@ -103,7 +103,7 @@ changes old (settles side) r new (settle, failure) = record {
   failure = failure;
   others = λ k h. settles_off side k r (current old k) (current new k) h (settle.contents k);
   own = λ k h. settles_at side k r (current old k) (current new k) h (settle.contents k);
-  spoiled = λ k. settle.spoiled k ∙ sym (or-false (old.spoiled k));
+  uncertain = λ k. settle.uncertain k ∙ sym (or-false (old.uncertain k));
   answer = tt;
 }
 
@@ -114,8 +114,8 @@ makes old (reads block bytes) r new h = (
     later = h.later;
     lost = h.lost;
     contents = λ k. h.others k refl;
-    spoiled = λ k. h.spoiled k
-        ∙ or-false (old.spoiled k);
+    uncertain = λ k. h.uncertain k
+        ∙ or-false (old.uncertain k);
   },
   h.failure,
   h.answer,
@@ -126,7 +126,7 @@ makes old (writes block bytes) r new h = (
     lost = h.lost;
     written = h.own block (eq-eqb block block refl);
     others = λ k ne. h.others k (ne_eqb k block ne);
-    spoiled = h.spoiled;
+    uncertain = h.uncertain;
   },
   h.failure,
 )
@@ -135,8 +135,8 @@ makes old (settles side) r new h = (
     later = h.later;
     lost = h.lost;
     contents = λ k. settles_from side k r (current old k) (current new k) (h.others k) (h.own k);
-    spoiled =
-        λ k. h.spoiled k ∙ or-false (old.spoiled k);
+    uncertain =
+        λ k. h.uncertain k ∙ or-false (old.uncertain k);
   },
   h.failure,
 )
@@ -147,19 +147,19 @@ counted r = cond (is_err r) 1 0
 
 -- a device one call later, which had this result, with these contents
 abbrev next : Device → (ℕ → List Content) → DeviceCall → Result Unit Failed → (ℕ → Bool) → Device
-next d lists call result spoiled = record {
+next d lists call result uncertain = record {
   size = d.size;
   clock = d.clock + 1;
   failures = d.failures + counted result;
   failed = λ made. if nat_lt made d.clock then d.failed made else is_err result;
   lost = λ made. if nat_lt made d.clock then d.lost made else loses call result;
   contents = λ clock k. if nat_le clock d.clock then d.contents clock k else lists k;
-  spoiled = spoiled;
+  uncertain = uncertain;
 }
 
 next_later : (d : Device) (lists : ℕ → List Content) (call : DeviceCall) (result : Result Unit Failed)
-    (spoiled : ℕ → Bool) → OneLater d (next d lists call result spoiled)
-next_later d lists call result spoiled = record {
+    (uncertain : ℕ → Bool) → OneLater d (next d lists call result uncertain)
+next_later d lists call result uncertain = record {
   size = refl;
   clock = refl;
   past = λ clock k h. ap (λ (t : Bool). if t then d.contents clock k else lists k) (le-leb clock d.clock h);
@@ -171,28 +171,28 @@ next_later d lists call result spoiled = record {
 
 -- of that call it is told whether it was lost
 next_lost : (d : Device) (lists : ℕ → List Content) (call : DeviceCall) (result : Result Unit Failed)
-    (spoiled : ℕ → Bool) → (next d lists call result spoiled).lost d.clock ≡ loses call result
-next_lost d lists call result spoiled =
+    (uncertain : ℕ → Bool) → (next d lists call result uncertain).lost d.clock ≡ loses call result
+next_lost d lists call result uncertain =
     ap (λ (t : Bool). if t then d.lost d.clock else loses call result) (le-ltb d.clock d.clock (omega arith))
 
 next_current : (d : Device) (lists : ℕ → List Content) (call : DeviceCall) (result : Result Unit Failed)
-    (spoiled : ℕ → Bool) (k : ℕ)
-    → current (next d lists call result spoiled) k ≡ lists k
-next_current d lists call result spoiled k =
+    (uncertain : ℕ → Bool) (k : ℕ)
+    → current (next d lists call result uncertain) k ≡ lists k
+next_current d lists call result uncertain k =
     ap (λ (t : Bool). if t then d.contents (d.clock + 1) k
     else lists k) (lt-leb (d.clock + 1) d.clock (omega arith))
 
-counts_next : (d : Device) (lists : ℕ → List Content) (call : DeviceCall) (spoiled : ℕ → Bool)
-    (r : Result Unit Failed) → CountsFailure d (next d lists call r spoiled) r
-counts_next d lists call spoiled (Ok u) = omega arith
-counts_next d lists call spoiled (Err u) = refl
+counts_next : (d : Device) (lists : ℕ → List Content) (call : DeviceCall) (uncertain : ℕ → Bool)
+    (r : Result Unit Failed) → CountsFailure d (next d lists call r uncertain) r
+counts_next d lists call uncertain (Ok u) = omega arith
+counts_next d lists call uncertain (Err u) = refl
 
 failures_of : (old new : Device) (r : Result Unit Failed) → CountsFailure old new r
     → new.failures ≡ old.failures + counted r
 failures_of old new (Ok u) h = omega (arith, h)
 failures_of old new (Err u) h = h
 
-pub newest_settled : (contents : List Content) → newest (newest_alone contents) ≡ newest contents
+pub newest_settled : (contents : List Content) → newest (newest_only contents) ≡ newest contents
 newest_settled contents =
     let n : ℕ = length contents - 1 in
     let len : length (drop n contents) ≡ length contents - n = length-drop n contents in
@@ -200,19 +200,19 @@ newest_settled contents =
     get_or-drop n contents (length (drop n contents) - 1) [] ∙ ap (λ (i : ℕ). get_or contents i []) at
 
 -- the block reads as it did
-record Keeps (old new : Device) (k : ℕ) : Type 0 where
+record PreservesContent (old new : Device) (k : ℕ) : Type 0 where
   brings : newest (current new k) ≡ newest (current old k)
-  clean : new.spoiled k ≡ old.spoiled k
+  clean : new.uncertain k ≡ old.uncertain k
 
-brings_back : (old new : Device) (k : ℕ) (bytes : Content) (r : Result Unit Failed) → Keeps old new k
+brings_back : (old new : Device) (k : ℕ) (bytes : Content) (r : Result Unit Failed) → PreservesContent old new k
     → Brings new k bytes r → Brings old k bytes r
-brings_back old new k bytes r keeps h clean =
-    subst (λ (c : Content). OnOk r (bytes ≡ c)) keeps.brings (h (keeps.clean ∙ clean))
+brings_back old new k bytes r preserves h clean =
+    subst (λ (c : Content). OnOk r (bytes ≡ c)) preserves.brings (h (preserves.clean ∙ clean))
 
-brings_on : (old new : Device) (k : ℕ) (bytes : Content) (r : Result Unit Failed) → Keeps old new k
+brings_on : (old new : Device) (k : ℕ) (bytes : Content) (r : Result Unit Failed) → PreservesContent old new k
     → Brings old k bytes r → Brings new k bytes r
-brings_on old new k bytes r keeps h clean =
-    subst (λ (c : Content). OnOk r (bytes ≡ c)) (sym keeps.brings) (h (sym keeps.clean ∙ clean))
+brings_on old new k bytes r preserves h clean =
+    subst (λ (c : Content). OnOk r (bytes ≡ c)) (sym preserves.brings) (h (sym preserves.clean ∙ clean))
 
 -- the first call writes no block that the other reads
 abbrev Spares : DeviceCall → DeviceCall → Type 0
@@ -222,44 +222,44 @@ Spares (writes block x) (settles side) = Unit
 Spares (reads block x) other = Unit
 Spares (settles side) other = Unit
 
-no_spoil : (x t : Bool) (r : Result Unit Failed) → t ≡ false → (x || (is_err r && t)) ≡ x
-no_spoil x t (Ok u) h = or-false x
-no_spoil x t (Err u) h = ap (λ (b : Bool). x || b) h ∙ or-false x
+none_uncertain : (x t : Bool) (r : Result Unit Failed) → t ≡ false → (x || (is_err r && t)) ≡ x
+none_uncertain x t (Ok u) h = or-false x
+none_uncertain x t (Err u) h = ap (λ (b : Bool). x || b) h ∙ or-false x
 
-settle_keeps : (side : Side) (r : Result Unit Failed) (old new : List Content)
+settle_preserves : (side : Side) (r : Result Unit Failed) (old new : List Content)
     → Leaves (settles side) r old new → newest new ≡ newest old
-settle_keeps side (Ok u) old new h = ap newest h ∙ newest_settled old
-settle_keeps side (Err u) old new h = ap newest h
+settle_preserves side (Ok u) old new h = ap newest h ∙ newest_settled old
+settle_preserves side (Err u) old new h = ap newest h
 
-keeps : (old new : Device) (call : DeviceCall) (r : Result Unit Failed) (k : ℕ) (bytes : Content)
-    → Changes old call r new → Spares call (reads k bytes) → Keeps old new k
-keeps old new (reads block x) r k bytes h spares = record {
+preserves : (old new : Device) (call : DeviceCall) (r : Result Unit Failed) (k : ℕ) (bytes : Content)
+    → Changes old call r new → Spares call (reads k bytes) → PreservesContent old new k
+preserves old new (reads block x) r k bytes h spares = record {
   brings = ap newest (h.others k refl);
-  clean = h.spoiled k ∙ or-false (old.spoiled k);
+  clean = h.uncertain k ∙ or-false (old.uncertain k);
 }
-keeps old new (writes block x) r k bytes h spares = record {
+preserves old new (writes block x) r k bytes h spares = record {
   brings = ap newest (h.others k (ne_eqb k block spares));
-  clean = h.spoiled k ∙ no_spoil (old.spoiled k) (nat_eq k block) r (ne_eqb k block spares);
+  clean = h.uncertain k ∙ none_uncertain (old.uncertain k) (nat_eq k block) r (ne_eqb k block spares);
 }
-keeps old new (settles side) r k bytes h spares = record {
+preserves old new (settles side) r k bytes h spares = record {
   brings = elim (cases_Bool (is_on side k)) [
-    | inl t ↦ settle_keeps side r (current old k) (current new k) (h.own k t)
+    | inl t ↦ settle_preserves side r (current old k) (current new k) (h.own k t)
     | inr f ↦ ap newest (h.others k f)
   ];
-  clean = h.spoiled k ∙ or-false (old.spoiled k);
+  clean = h.uncertain k ∙ or-false (old.uncertain k);
 }
 
 answers_back : (old new : Device) (call other : DeviceCall) (r s : Result Unit Failed)
     → Changes old call r new → Spares call other → Answers new other s → Answers old other s
 answers_back old new call (reads k bytes) r s h spares a =
-    brings_back old new k bytes s (keeps old new call r k bytes h spares) a
+    brings_back old new k bytes s (preserves old new call r k bytes h spares) a
 answers_back old new call (writes k bytes) r s h spares a = tt
 answers_back old new call (settles side) r s h spares a = tt
 
 answers_on : (old new : Device) (call other : DeviceCall) (r s : Result Unit Failed) → Changes old call r new
     → Spares call other → Answers old other s → Answers new other s
 answers_on old new call (reads k bytes) r s h spares a =
-    brings_on old new k bytes s (keeps old new call r k bytes h spares) a
+    brings_on old new k bytes s (preserves old new call r k bytes h spares) a
 answers_on old new call (writes k bytes) r s h spares a = tt
 answers_on old new call (settles side) r s h spares a = tt
 
@@ -290,18 +290,18 @@ module _ (old middle new : Device) (first second : DeviceCall) (r s : Result Uni
   lists k = if touches second k then current new k else current old k
 
   abbrev between : Device
-  between = next old lists second s (λ k. old.spoiled k || spoils second s k)
+  between = next old lists second s (λ k. old.uncertain k || makes_uncertain second s k)
 
   abbrev end : Device
-  end = next between (λ k. current new k) first r (λ k. between.spoiled k
-      || spoils first r k)
+  end = next between (λ k. current new k) first r (λ k. between.uncertain k
+      || makes_uncertain first r k)
 
   between_at : (k : ℕ) → current between k ≡ lists k
-  between_at k = next_current old lists second s (λ k. old.spoiled k || spoils second s k) k
+  between_at k = next_current old lists second s (λ k. old.uncertain k || makes_uncertain second s k) k
 
   end_at : (k : ℕ) → current end k ≡ current new k
-  end_at k = next_current between (λ k. current new k) first r (λ k. between.spoiled k
-      || spoils first r k) k
+  end_at k = next_current between (λ k. current new k) first r (λ k. between.uncertain k
+      || makes_uncertain first r k) k
 
   lists_at : (k : ℕ) (t : Bool) → touches second k ≡ t
       → lists k ≡ (if t then current new k else current old k)
@@ -309,26 +309,26 @@ module _ (old middle new : Device) (first second : DeviceCall) (r s : Result Uni
 
   second_first : Changes old second s between
   second_first = record {
-    later = next_later old lists second s (λ k. old.spoiled k || spoils second s k);
-    lost = next_lost old lists second s (λ k. old.spoiled k || spoils second s k);
-    failure = counts_next old lists second (λ k. old.spoiled k || spoils second s k) s;
+    later = next_later old lists second s (λ k. old.uncertain k || makes_uncertain second s k);
+    lost = next_lost old lists second s (λ k. old.uncertain k || makes_uncertain second s k);
+    failure = counts_next old lists second (λ k. old.uncertain k || makes_uncertain second s k) s;
     others = λ k h. between_at k ∙ lists_at k false h;
     own = λ k h.
         let same : current middle k ≡ current old k = one.others k (untouched first second apart k h) in
         subst (λ (c : List Content). Leaves second s c (current between k)) same
         (subst (λ (c : List Content). Leaves second s (current middle k) c)
         (sym (between_at k ∙ lists_at k true h)) (two.own k h));
-    spoiled = λ k. refl;
+    uncertain = λ k. refl;
     answer = answers_back old middle first second r s one apart.first_spares two.answer;
   }
 
   first_second : Changes between first r end
   first_second = record {
-    later = next_later between (λ k. current new k) first r (λ k. between.spoiled k
-        || spoils first r k);
-    lost = next_lost between (λ k. current new k) first r (λ k. between.spoiled k
-        || spoils first r k);
-    failure = counts_next between (λ k. current new k) first (λ k. between.spoiled k || spoils first r k) r;
+    later = next_later between (λ k. current new k) first r (λ k. between.uncertain k
+        || makes_uncertain first r k);
+    lost = next_lost between (λ k. current new k) first r (λ k. between.uncertain k
+        || makes_uncertain first r k);
+    failure = counts_next between (λ k. current new k) first (λ k. between.uncertain k || makes_uncertain first r k) r;
     others = λ k h. elim (cases_Bool (touches second k)) [
       | inl t ↦ end_at k ∙ sym (between_at k ∙ lists_at k true t)
       | inr f ↦ end_at k ∙ two.others k f ∙ one.others k h ∙ sym (between_at k ∙ lists_at k false f)
@@ -339,7 +339,7 @@ module _ (old middle new : Device) (first second : DeviceCall) (r s : Result Uni
         (sym (between_at k ∙ lists_at k false f))
         (subst (λ (c : List Content). Leaves first r (current old k) c) (sym (end_at k ∙ two.others k f))
         (one.own k h));
-    spoiled = λ k. refl;
+    uncertain = λ k. refl;
     answer = answers_on old between second first s r second_first apart.second_spares one.answer;
   }
 
@@ -350,8 +350,8 @@ module _ (old middle new : Device) (first second : DeviceCall) (r s : Result Uni
     failures = let f = failures_of old middle r one.failure in let g = failures_of middle new s two.failure in
         omega (arith, f, g);
     contents = λ k. sym (end_at k);
-    spoiled = λ k. two.spoiled k ∙ ap (λ (b : Bool). b || spoils second s k) (one.spoiled k)
-        ∙ last_two (old.spoiled k) (spoils first r k) (spoils second s k);
+    uncertain = λ k. two.uncertain k ∙ ap (λ (b : Bool). b || makes_uncertain second s k) (one.uncertain k)
+        ∙ last_two (old.uncertain k) (makes_uncertain first r k) (makes_uncertain second s k);
   }
 
   swapped : Swapped old first second r s new

@@ -22,5 +22,5 @@ writes block (Write at) = nat_eq block at.0
 writes block (Barrier _) = false
 
 -- it was a write of the block, which failed
-abbrev pub spoils : ℕ → CallRecord → Bool
-spoils block n = is_err n.result && writes block n.call
+abbrev pub makes_uncertain : ℕ → CallRecord → Bool
+makes_uncertain block n = is_err n.result && writes block n.call

@@ -13,4 +13,4 @@ IsCrashImage d clock image = (block : ℕ) → block < d.size → Contains (d.co
 -- each block has one content, and no write has failed: so a device is when it is opened, whatever was before
 pub record IsAtRest (d : Device) : Type 0 where
   pub one : (block : ℕ) → block < d.size → length (current d block) ≡ 1
-  pub unspoiled : (block : ℕ) → d.spoiled block ≡ false
+  pub certain : (block : ℕ) → d.uncertain block ≡ false

@@ -28,7 +28,7 @@ pub record Device : Type 0 where
   -- at a clock, for a block: the contents that a crash may leave, the newest last
   pub contents : ℕ → ℕ → List Content
   -- a write of the block has failed
-  pub spoiled : ℕ → Bool
+  pub uncertain : ℕ → Bool
 
 -- the contents that a crash now may leave
 abbrev pub current : Device → ℕ → List Content
@@ -39,8 +39,8 @@ abbrev pub newest : List Content → Content
 newest contents = slice_index_or contents (length contents - 1) []
 
 -- the last of a list of contents, alone
-abbrev pub newest_alone : List Content → List Content
-newest_alone contents = drop (length contents - 1) contents
+abbrev pub newest_only : List Content → List Content
+newest_only contents = drop (length contents - 1) contents
 
 -- blocks 1 to 512 are on the log side, block 0 and those from 513 on are on the home side
 abbrev pub side_of : ℕ → Side
@@ -70,7 +70,7 @@ pub record HasRead (old new : Device) : Type 0 where
   pub later : OneLater old new
   pub lost : new.lost old.clock ≡ false
   pub contents : (block : ℕ) → current new block ≡ current old block
-  pub spoiled : (block : ℕ) → new.spoiled block ≡ old.spoiled block
+  pub uncertain : (block : ℕ) → new.uncertain block ≡ old.uncertain block
 
 -- what a write does to the contents of its block: a failed one may have been made or not
 abbrev pub Appends : List Content → Content → Result Unit Failed → List Content → Type 0
@@ -84,11 +84,11 @@ pub record HasWritten (old : Device) (block : ℕ) (content : Content) (result :
   pub lost : new.lost old.clock ≡ is_err result
   pub written : Appends (current old block) content result (current new block)
   pub others : (other : ℕ) → other ≢ block → current new other ≡ current old other
-  pub spoiled : (other : ℕ) → new.spoiled other ≡ (old.spoiled other || (is_err result && nat_eq other block))
+  pub uncertain : (other : ℕ) → new.uncertain other ≡ (old.uncertain other || (is_err result && nat_eq other block))
 
 -- what a barrier does to the contents of a block: a failed one does nothing
 abbrev pub Settles : Side → ℕ → List Content → Result Unit Failed → List Content → Type 0
-Settles side block old (Ok _) new = new ≡ (if is_on side block then newest_alone old else old)
+Settles side block old (Ok _) new = new ≡ (if is_on side block then newest_only old else old)
 Settles side block old (Err _) new = new ≡ old
 
 -- after a barrier, made or failed
@@ -96,4 +96,4 @@ pub record HasSettled (old : Device) (side : Side) (result : Result Unit Failed)
   pub later : OneLater old new
   pub lost : new.lost old.clock ≡ is_err result
   pub contents : (block : ℕ) → Settles side block (current old block) result (current new block)
-  pub spoiled : (block : ℕ) → new.spoiled block ≡ old.spoiled block
+  pub uncertain : (block : ℕ) → new.uncertain block ≡ old.uncertain block

@@ -4,7 +4,7 @@ use Rattle.std.specs.Prelude.{Contains}
 use Rattle.std.specs.List.{list_any}
 use Rattle.disk.specs.Device.{Content, Device, current, newest}
 use Rattle.disk.specs.Crash.{Image}
-use Rattle.disk.specs.CallRecord.{is_failure, is_lost, spoils}
+use Rattle.disk.specs.CallRecord.{is_failure, is_lost, makes_uncertain}
 use Rattle.disk.specs.declared.call_record.CallRecord.{CallRecord}
 use Rattle.disk.specs.declared.mem_disk.MemDisk.{MemDisk}
 
@@ -36,7 +36,7 @@ device_of now past = record {
   failed = λ call. failed_at past call;
   lost = λ call. lost_at past call;
   contents = λ clock block. slice_index_or (held_at now past clock) block [];
-  spoiled = λ block. list_any (λ e. spoils block e.1) past;
+  uncertain = λ block. list_any (λ e. makes_uncertain block e.1) past;
 }
 
 -- the contents now of each block
@@ -59,7 +59,7 @@ IsDue d = Contains (to_fail d) (length (past_of d) + 1)
 
 -- how often memory was refused to the device
 abbrev pub refusals : MemDisk → ℕ
-refusals d = length d.room.refused.items
+refusals d = length d.content_allocator.refused.items
 
 -- memory was refused to the call that lies between
 abbrev pub IsFull : MemDisk → MemDisk → Type 0

@@ -13,7 +13,7 @@ pub data DeviceCall : Type 0 where
 
 -- a read brings the newest content, unless a write of the block had failed
 abbrev pub Brings : Device → ℕ → Content → Result Unit Failed → Type 0
-Brings d block bytes result = d.spoiled block ≡ false → OnOk result (bytes ≡ newest (current d block))
+Brings d block bytes result = d.uncertain block ≡ false → OnOk result (bytes ≡ newest (current d block))
 
 -- the call may have this result, and leads from the old device to the new
 abbrev pub Makes : Device → DeviceCall → Result Unit Failed → Device → Type 0
@@ -36,13 +36,13 @@ MayOverlap (settles side) (reads other y) = Unit
 MayOverlap (settles side) (writes other y) = is_on side other ≡ false
 MayOverlap (settles side) (settles other) = side ≢ other
 
--- two devices with the same contents now, as many calls and failures, and the same blocks spoiled
+-- two devices with the same contents now, as many calls and failures, and the same blocks uncertain
 pub record Alike (one other : Device) : Type 0 where
   pub size : one.size ≡ other.size
   pub clock : one.clock ≡ other.clock
   pub failures : one.failures ≡ other.failures
   pub contents : (block : ℕ) → current one block ≡ current other block
-  pub spoiled : (block : ℕ) → one.spoiled block ≡ other.spoiled block
+  pub uncertain : (block : ℕ) → one.uncertain block ≡ other.uncertain block
 
 -- there are devices on the way and at the end by which the calls come in the other order, with the same
 -- results

@@ -18,7 +18,7 @@ device_call (Write block bytes) = writes block.0 bytes.value
 device_call (Barrier side) = settles side
 
 abbrev pub answered : List (PortCall × Result Unit Failed) → AnsweredCalls
-answered noted = map (λ one. (device_call one.0, one.1)) noted
+answered traced = map (λ one. (device_call one.0, one.1)) traced
 
 -- the block is one of so many, on this side
 abbrev pub LiesOn : ℕ → Side → ℕ → Type 0

@@ -1,6 +1,6 @@
 //! The contents that one block may have.
 ghost use Rattle.std.specs.Prelude.{◌≡◌, ◌<◌, ◌-◌, [], ◌∷◌, ◌++◌, min, is_ok, length, IfOk, if◌then◌else◌};
-ghost use Rattle.disk.specs.Device.{newest, newest_alone};
+ghost use Rattle.disk.specs.Device.{newest, newest_only};
 ghost use Rattle.disk.specs.Choice.{pick};
 ghost use Rattle.disk.specs.Blocks.{AreContents};
 
@@ -73,7 +73,7 @@ impl Contents {
 
     /// Keeps the newest alone.
     pub fn keep_newest(&mut self)
-        ensures kept { self.new ≡ newest_alone self.old }
+        ensures is_preserved { self.new ≡ newest_only self.old }
         ensures whole { AreContents self.new }
     {
         let last = self.blocks.len() - 1;
@@ -82,7 +82,7 @@ impl Contents {
 
     /// Keeps one alone: that of this index, or where there are fewer the newest.
     pub fn keep_one(&mut self, index: usize)
-        ensures kept { self.new ≡ pick index self.old ∷ [] }
+        ensures is_preserved { self.new ≡ pick index self.old ∷ [] }
         ensures some { 0 < length self.old }
         ensures whole { AreContents self.new }
     {

@@ -29,7 +29,7 @@ pub trait CrashDisk {
         ensures call { HasRead (device self.old) (device self.new) }
         ensures failure { CountsFailure (device self.old) (device self.new) result }
         ensures model { keeps_model self.new → keeps_model self.old }
-        ensures newest { keeps_model self.new → (device self.old).spoiled block.0 ≡ false
+        ensures newest { keeps_model self.new → (device self.old).uncertain block.0 ≡ false
             → OnOk result (out.new ≡ newest (current (device self.old) block.0)) };
 
     /// Writes a block. Until a barrier a crash may leave an earlier content in its place.

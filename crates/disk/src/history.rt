@@ -27,12 +27,12 @@ impl History {
     }
 
     /// The calls and one more, before which the blocks held this.
-    pub fn and(&self, before: &Snapshot<Vec<Contents>>, noted: &CallRecord) -> History
-        ensures { result.past.items ≡ self.now.past.items ++ (before.now, noted.now) ∷ [] }
+    pub fn and(&self, before: &Snapshot<Vec<Contents>>, traced: &CallRecord) -> History
+        ensures { result.past.items ≡ self.now.past.items ++ (before.now, traced.now) ∷ [] }
     {
         History {
             calls: self.calls.saturating_add(1),
-            past: self.past.and(before, noted),
+            past: self.past.and(before, traced),
         }
     }
 

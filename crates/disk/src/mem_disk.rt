@@ -2,14 +2,14 @@
 ghost use Rattle.std.specs.Prelude.{◌≡◌, ℕ, ◌<◌, ◌^◌, ◌-◌, ◌↔◌, min, length, [], ◌∷◌, map, replicate};
 ghost use Rattle.std.specs.Prelude.{All, Contains, IsTrue, slice_index, slice_index_or, IfOk, if◌then◌else◌};
 ghost use Rattle.base.specs.declared.TheConstants.{BLOCK_BYTES};
-ghost use Rattle.disk.specs.Device.{is_on, newest_alone};
+ghost use Rattle.disk.specs.Device.{is_on, newest_only};
 ghost use Rattle.disk.specs.Blocks.{AreContents, AreWhole};
 ghost use Rattle.disk.specs.Choice.{chosen};
 
 use crate::call_record::{Call, CallRecord};
+use crate::content_allocator::ContentAllocator;
 use crate::contents::Contents;
 use crate::history::History;
-use crate::room::Room;
 use crate::{Block, BlockNo, CrashDisk, Failed, Side};
 use std::alloc::{AllocError, Global};
 use std::snapshot::Snapshot;
@@ -17,7 +17,7 @@ use std::snapshot::Snapshot;
 /// A device in memory. What it held before each of its calls is kept for proofs alone, and takes no memory.
 #[derive(Drop)]
 pub struct MemDisk {
-    room: Room,
+    content_allocator: ContentAllocator,
     blocks: Vec<Contents>,
     fails: Vec<u64>,
     history: History,
@@ -40,7 +40,7 @@ impl MemDisk {
         ensures rest { IfOk result (λ d. IsAtRest (memory_device d)) }
     {
         Ok(MemDisk {
-            room: Room::new(alloc),
+            content_allocator: ContentAllocator::new(alloc),
             blocks: zeros(alloc, blocks)?,
             fails: Vec::new(alloc),
             history: History::new(),
@@ -67,7 +67,7 @@ impl MemDisk {
         ensures none { to_fail result ≡ [] }
     {
         let MemDisk {
-            room,
+            content_allocator,
             mut blocks,
             mut fails,
             history: _,
@@ -75,7 +75,7 @@ impl MemDisk {
         choose(&mut blocks, digits);
         fails.clear();
         MemDisk {
-            room,
+            content_allocator,
             blocks,
             fails,
             history: History::new(),
@@ -132,19 +132,19 @@ impl MemDisk {
     }
 
     // Notes a call, before which the blocks held this.
-    fn note(&mut self, before: &Snapshot<Vec<Contents>>, call: Call, outcome: Result<(), Failed>)
+    fn trace(&mut self, before: &Snapshot<Vec<Contents>>, call: Call, outcome: Result<(), Failed>)
         requires { AreWhole (length (blocks_of self.old)) before.now.value.items }
         ensures past { past_of self.new ≡ past_of self.old
             ++ (before.now.value.items, record { call = call; result = outcome }) ∷ [] }
         ensures blocks { blocks_of self.new ≡ blocks_of self.old }
         ensures fails { to_fail self.new ≡ to_fail self.old }
-        ensures room { self.new.room ≡ self.old.room }
+        ensures content_allocator { self.new.content_allocator ≡ self.old.content_allocator }
     {
-        let noted = CallRecord {
+        let traced = CallRecord {
             call,
             result: outcome,
         };
-        self.history = self.history.and(before, &noted);
+        self.history = self.history.and(before, &traced);
     }
 }
 
@@ -178,7 +178,7 @@ impl CrashDisk for MemDisk {
         if result.is_ok() {
             out.copy_from(self.blocks[block.0 as usize].newest());
         }
-        self.note(&before, Call::Read(block), result);
+        self.trace(&before, Call::Read(block), result);
         result
     }
 
@@ -198,10 +198,10 @@ impl CrashDisk for MemDisk {
         let before = Snapshot::of(&self.blocks);
         let due = self.outcome();
         let made = self
-            .room
+            .content_allocator
             .append(&mut self.blocks[block.0 as usize], content);
         let result = if made.is_ok() { due } else { Err(Failed) };
-        self.note(&before, Call::Write(block), result);
+        self.trace(&before, Call::Write(block), result);
         result
     }
 
@@ -216,7 +216,7 @@ impl CrashDisk for MemDisk {
         if result.is_ok() {
             settle(&mut self.blocks, side);
         }
-        self.note(&before, Call::Barrier(side), result);
+        self.trace(&before, Call::Barrier(side), result);
         result
     }
 }
@@ -272,7 +272,7 @@ fn digit_at(digits: &[u32], at: usize) -> usize
 fn settle(blocks: &mut [Contents], side: Side)
     requires { length blocks.old < 2 ^ 32 }
     ensures contents { (block : ℕ) → slice_index_or blocks.new block []
-        ≡ (if is_on side block then newest_alone (slice_index_or blocks.old block []) else slice_index_or
+        ≡ (if is_on side block then newest_only (slice_index_or blocks.old block []) else slice_index_or
         blocks.old block []) }
     ensures len { length blocks.new ≡ length blocks.old }
     ensures whole { All AreContents blocks.old → All AreContents blocks.new }

@@ -18,7 +18,7 @@ pub struct MemPort<'a, R: Wait> {
     disk: &'a Mutex<MemDisk>,
     blocks: u32,
     side: Side,
-    noted: Log<PortCall, Result<(), Failed>>,
+    traced: Log<PortCall, Result<(), Failed>>,
 }
 
 /// The home blocks of a device in memory. Each read of it is one read of the device, and is noted for proofs
@@ -28,7 +28,7 @@ pub struct MemSource<'a, R: Wait> {
     rt: &'a R,
     disk: &'a Mutex<MemDisk>,
     blocks: u32,
-    noted: Log<PortCall, Result<(), Failed>>,
+    traced: Log<PortCall, Result<(), Failed>>,
 }
 
 impl MemDisk {
@@ -40,10 +40,10 @@ impl MemDisk {
         disk: &'a Mutex<MemDisk>,
         workers: usize,
     ) -> Result<(MemPort<'a, R>, MemPort<'a, R>, Vec<MemSource<'a, R>>), AllocError>
-        ensures log { IfOk result (λ parts. (parts.0.side ≡ sides.Log) × (parts.0.noted.items ≡ [])) }
-        ensures home { IfOk result (λ parts. (parts.1.side ≡ sides.Home) × (parts.1.noted.items ≡ [])) }
+        ensures log { IfOk result (λ parts. (parts.0.side ≡ sides.Log) × (parts.0.traced.items ≡ [])) }
+        ensures home { IfOk result (λ parts. (parts.1.side ≡ sides.Home) × (parts.1.traced.items ≡ [])) }
         ensures count { IfOk result (λ parts. length parts.2.items ≡ workers) }
-        ensures sources { IfOk result (λ parts. All (λ source. source.noted.items ≡ []) parts.2.items) }
+        ensures sources { IfOk result (λ parts. All (λ source. source.traced.items ≡ []) parts.2.items) }
     {
         let blocks = disk.lock(rt).blocks();
         let sources = sources_of(rt, alloc, disk, blocks, workers)?;
@@ -64,7 +64,7 @@ fn sources_of<'a, R: Wait>(
     count: usize,
 ) -> Result<Vec<MemSource<'a, R>>, AllocError>
     ensures count { IfOk result (λ sources. length sources.items ≡ count) }
-    ensures fresh { IfOk result (λ sources. All (λ source. source.noted.items ≡ []) sources.items) }
+    ensures fresh { IfOk result (λ sources. All (λ source. source.traced.items ≡ []) sources.items) }
 {
     let mut sources = Vec::with_capacity(alloc, count)?;
     for _made in 0..count {
@@ -76,14 +76,14 @@ fn sources_of<'a, R: Wait>(
 impl<'a, R: Wait> MemPort<'a, R> {
     fn new(rt: &'a R, disk: &'a Mutex<MemDisk>, blocks: u32, side: Side) -> MemPort<'a, R>
         ensures side { result.side ≡ side }
-        ensures noted { result.noted.items ≡ [] }
+        ensures traced { result.traced.items ≡ [] }
     {
         MemPort {
             rt,
             disk,
             blocks,
             side,
-            noted: Log::new(),
+            traced: Log::new(),
         }
     }
 
@@ -116,31 +116,31 @@ impl<'a, R: Wait> Port for MemPort<'a, R> {
 
     ghost size = { λ p. p.blocks };
 
-    ghost calls = { λ p. answered p.noted.items };
+    ghost calls = { λ p. answered p.traced.items };
 
     fn write(&mut self, block: BlockNo, content: &Block) -> Result<(), Failed> {
         let result = self.put(block, content);
         let call = PortCall::Write(block, Snapshot::of(content));
-        self.noted = self.noted.and(&call, &result);
+        self.traced = self.traced.and(&call, &result);
         result
     }
 
     fn barrier(&mut self, side: Side) -> Result<(), Failed> {
         let result = self.sync(side);
-        self.noted = self.noted.and(&PortCall::Barrier(side), &result);
+        self.traced = self.traced.and(&PortCall::Barrier(side), &result);
         result
     }
 }
 
 impl<'a, R: Wait> MemSource<'a, R> {
     fn new(rt: &'a R, disk: &'a Mutex<MemDisk>, blocks: u32) -> MemSource<'a, R>
-        ensures { result.noted.items ≡ [] }
+        ensures { result.traced.items ≡ [] }
     {
         MemSource {
             rt,
             disk,
             blocks,
-            noted: Log::new(),
+            traced: Log::new(),
         }
     }
 
@@ -161,12 +161,12 @@ impl<'a, R: Wait> Source for MemSource<'a, R> {
 
     ghost size = { λ s. s.blocks };
 
-    ghost calls = { λ s. answered s.noted.items };
+    ghost calls = { λ s. answered s.traced.items };
 
     fn read(&mut self, block: BlockNo, out: &mut Block) -> Result<(), Failed> {
         let result = self.get(block, out);
         let call = PortCall::Read(block, Snapshot::of(out));
-        self.noted = self.noted.and(&call, &result);
+        self.traced = self.traced.and(&call, &result);
         result
     }
 }

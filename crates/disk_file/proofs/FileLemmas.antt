@@ -16,9 +16,9 @@ use Rattle.disk_file.specs.declared.file.FileCall.{FileCall}
 use Rattle.disk_file.specs.declared.file.FileCall.TheVariants.{Read, Write, Sync}
 use Rattle.disk.specs.Device.{Content, Device, current, newest, OneLater, HasRead, HasWritten, HasSettled}
 use Rattle.disk.specs.Device.{Appends, Settles, CountsFailure}
-use Rattle.disk_file.specs.File.{Calls, is_at, effect, contents_after, spoils_block, is_spoiled, file_device, is_lost}
+use Rattle.disk_file.specs.File.{Calls, is_at, effect, contents_after, makes_block_uncertain, is_uncertain, file_device, is_lost}
 use Rattle.disk_file.specs.File.{KeepsModel}
-use Rattle.disk.proofs.Failures.{told_before, told_last}
+use Rattle.disk.proofs.Failures.{earlier_answers_stay, last_answer_stays}
 
 -- a block is at another's offset just where it is that one
 pub same_block : (one other : ℕ) → is_at one (other * BLOCK_BYTES) ≡ nat_eq one other
@@ -66,18 +66,18 @@ module _ (first : ℕ → Content) (size : ℕ) (calls : Calls) where
     clock = length-append calls ((call, r) ∷ []);
     past = λ clock block h. ap (λ (es : Calls). contents_after block (first block ∷ []) es)
         (take-append-le clock calls ((call, r) ∷ []) h);
-    failed = λ made h. told_before (λ e. is_err e.1) calls (call, r) made h;
-    lost = λ made h. told_before (λ e. is_lost e.0 e.1) calls (call, r) made h;
+    failed = λ made h. earlier_answers_stay (λ e. is_err e.1) calls (call, r) made h;
+    lost = λ made h. earlier_answers_stay (λ e. is_lost e.0 e.1) calls (call, r) made h;
     counted = counted_more call r
         ∙ ap (λ (b : Bool). count_by (λ e. is_err e.1) calls + cond b 1 0)
-        (sym (told_last (λ e. is_err e.1) calls (call, r)));
+        (sym (last_answer_stays (λ e. is_err e.1) calls (call, r)));
   }
 
-  spoiled_more : (block : ℕ) (call : FileCall) (r : Result Unit Failed)
-      → is_spoiled block (calls ++ (call, r) ∷ []) ≡ (is_spoiled block calls || spoils_block block call r)
-  spoiled_more block call r =
-      list_any-append (λ e. spoils_block block e.0 e.1) calls ((call, r) ∷ [])
-      ∙ ap (λ (b : Bool). is_spoiled block calls || b) (or-false (spoils_block block call r))
+  uncertain_more : (block : ℕ) (call : FileCall) (r : Result Unit Failed)
+      → is_uncertain block (calls ++ (call, r) ∷ []) ≡ (is_uncertain block calls || makes_block_uncertain block call r)
+  uncertain_more block call r =
+      list_any-append (λ e. makes_block_uncertain block e.0 e.1) calls ((call, r) ∷ [])
+      ∙ ap (λ (b : Bool). is_uncertain block calls || b) (or-false (makes_block_uncertain block call r))
 
   -- an answer is counted just where it is a failure
   pub counts : (call : FileCall) (r : Result Unit Failed) → CountsFailure now (next call r) r
@@ -86,10 +86,10 @@ module _ (first : ℕ → Content) (size : ℕ) (calls : Calls) where
   counts call (Err u) = sum_by-append (λ e. cond (is_err e.1) 1 0) calls ((call, Err u) ∷ [])
 
   -- what kept the model with more calls kept it before
-  pub keeps_before : (more : Calls) → KeepsModel first size (calls ++ more) → KeepsModel first size calls
-  keeps_before more keeps = record {
-    blocks = keeps.blocks;
-    explained = λ earlier later call h. keeps.explained earlier (later ++ more) call
+  pub preserves_before : (more : Calls) → KeepsModel first size (calls ++ more) → KeepsModel first size calls
+  preserves_before more preserves = record {
+    blocks = preserves.blocks;
+    explained = λ earlier later call h. preserves.explained earlier (later ++ more) call
         (ap (λ (es : Calls). es ++ more) h ∙ append_assoc earlier ((call, Ok tt) ∷ later) more);
   }
 
@@ -97,9 +97,9 @@ module _ (first : ℕ → Content) (size : ℕ) (calls : Calls) where
       → HasRead now (next (Read at bytes) r)
   has_read at bytes r = record {
     later = later (Read at bytes) r;
-    lost = told_last (λ e. is_lost e.0 e.1) calls (Read at bytes, r);
+    lost = last_answer_stays (λ e. is_lost e.0 e.1) calls (Read at bytes, r);
     contents = λ block. current_more (Read at bytes) r block;
-    spoiled = λ block. spoiled_more block (Read at bytes) r ∙ or-false (is_spoiled block calls);
+    uncertain = λ block. uncertain_more block (Read at bytes) r ∙ or-false (is_uncertain block calls);
   }
 
   appends : (b : ℕ) (contents new : List Content) (content : Content) (r : Result Unit Failed)
@@ -118,13 +118,13 @@ module _ (first : ℕ → Content) (size : ℕ) (calls : Calls) where
       let call : FileCall = Write (b * BLOCK_BYTES) bytes in
       record {
         later = later call r;
-        lost = told_last (λ e. is_lost e.0 e.1) calls (call, r);
+        lost = last_answer_stays (λ e. is_lost e.0 e.1) calls (call, r);
         written = appends b (current now b) (current (next call r) b) bytes.value r (current_more call r b);
         others = λ other ne. current_more call r other
             ∙ ap (λ (t : Bool). if t then current now other ++ bytes.value ∷ [] else current now other)
             (same_block other b ∙ ne_eqb other b ne);
-        spoiled = λ block. spoiled_more block call r
-            ∙ ap (λ (t : Bool). is_spoiled block calls || (is_err r && t)) (same_block block b);
+        uncertain = λ block. uncertain_more block call r
+            ∙ ap (λ (t : Bool). is_uncertain block calls || (is_err r && t)) (same_block block b);
       }
 
   -- the same of what is equal to it
@@ -132,8 +132,8 @@ module _ (first : ℕ → Content) (size : ℕ) (calls : Calls) where
       (r : Result Unit Failed)
       → bytes.value ≡ content → at ≡ b * BLOCK_BYTES → after ≡ calls ++ (Write at bytes, r) ∷ []
       → HasWritten now b content r (file_device first size after)
-  written after b at content bytes r same is noted =
-      subst (λ (es : Calls). HasWritten now b content r (file_device first size es)) (sym noted)
+  written after b at content bytes r same is traced =
+      subst (λ (es : Calls). HasWritten now b content r (file_device first size es)) (sym traced)
       (subst (λ (n : ℕ). HasWritten now b content r (next (Write n bytes) r)) (sym is)
       (subst (λ (c : Content). HasWritten now b c r (next (Write (b * BLOCK_BYTES) bytes) r)) same
       (has_written b bytes r)))
@@ -146,18 +146,18 @@ module _ (first : ℕ → Content) (size : ℕ) (calls : Calls) where
   pub has_settled : (side : Side) (r : Result Unit Failed) → HasSettled now side r (next (Sync side) r)
   has_settled side r = record {
     later = later (Sync side) r;
-    lost = told_last (λ e. is_lost e.0 e.1) calls (Sync side, r);
+    lost = last_answer_stays (λ e. is_lost e.0 e.1) calls (Sync side, r);
     contents = λ block. settles side block (current now block) (current (next (Sync side) r) block) r
         (current_more (Sync side) r block);
-    spoiled = λ block. spoiled_more block (Sync side) r ∙ or-false (is_spoiled block calls);
+    uncertain = λ block. uncertain_more block (Sync side) r ∙ or-false (is_uncertain block calls);
   }
 
   -- a read that is explained brought the newest content
   pub explained : (b : ℕ) (bytes : Snapshot Content) (r : Result Unit Failed)
-      → KeepsModel first size (calls ++ (Read (b * BLOCK_BYTES) bytes, r) ∷ []) → is_spoiled b calls ≡ false
+      → KeepsModel first size (calls ++ (Read (b * BLOCK_BYTES) bytes, r) ∷ []) → is_uncertain b calls ≡ false
       → OnOk r (bytes.value ≡ newest (current now b))
-  explained b bytes (Ok u) keeps clean =
-      keeps.explained calls [] (Read (b * BLOCK_BYTES) bytes) refl b
+  explained b bytes (Ok u) preserves clean =
+      preserves.explained calls [] (Read (b * BLOCK_BYTES) bytes) refl b
       (eq-eqb (b * BLOCK_BYTES) (b * BLOCK_BYTES) refl) clean
       ∙ ap newest (sym (whole b (first b ∷ []) calls))
-  explained b bytes (Err u) keeps clean = tt
+  explained b bytes (Err u) preserves clean = tt

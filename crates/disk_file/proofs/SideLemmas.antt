@@ -11,30 +11,30 @@ use Rattle.disk.specs.declared.device.Failed.{Failed}
 use Rattle.disk_file.specs.declared.file.FileCall.{FileCall}
 use Rattle.disk_file.specs.declared.file.FileCall.TheVariants.{Read, Write, Sync}
 use Rattle.disk.specs.Device.{Content, is_on}
-use Rattle.disk_file.specs.File.{Calls, EachFits, IsHonest, KeepsModel, file_device, is_at, is_spoiled, put}
-use Rattle.disk_file.specs.File.{spoils_block, stored}
+use Rattle.disk_file.specs.File.{Calls, EachFits, IsHonest, KeepsModel, file_device, is_at, is_uncertain, put}
+use Rattle.disk_file.specs.File.{makes_block_uncertain, stored}
 use Rattle.disk.specs.Overlap.{DeviceCall, Makes, reads, writes, settles}
 use Rattle.disk.specs.Ports.{AnsweredCalls}
 use Rattle.disk_file.specs.Sides.{ComeInOrder, IsHonestTo, asked_for, file_call, file_calls, is_of, of_side}
-use Rattle.disk_file.proofs.FileLemmas.{counts, explained, has_read, has_settled, has_written, keeps_before, same_block}
+use Rattle.disk_file.proofs.FileLemmas.{counts, explained, has_read, has_settled, has_written, preserves_before, same_block}
 
 abbrev Answered : Type 0
 Answered = DeviceCall × Result Unit Failed
 
 -- ---- lists
 
-kept : {X : Type 0} (p : X → Bool) (x : X) (xs : List X) → p x ≡ true → filter p (x ∷ xs) ≡ x ∷ filter p xs
-kept p x xs is = ap (λ (b : Bool). if b then x ∷ filter p xs else filter p xs) is
+left_over : {X : Type 0} (p : X → Bool) (x : X) (xs : List X) → p x ≡ true → filter p (x ∷ xs) ≡ x ∷ filter p xs
+left_over p x xs is = ap (λ (b : Bool). if b then x ∷ filter p xs else filter p xs) is
 
 dropped : {X : Type 0} (p : X → Bool) (x : X) (xs : List X) → p x ≡ false → filter p (x ∷ xs) ≡ filter p xs
 dropped p x xs is = ap (λ (b : Bool). if b then x ∷ filter p xs else filter p xs) is
 
 filtered_at : {X : Type 0} (p : X → Bool) (before : List X) (x : X) (after : List X) → p x ≡ true
     → filter p (before ++ x ∷ after) ≡ filter p before ++ x ∷ filter p after
-filtered_at p [] x after is = kept p x after is
+filtered_at p [] x after is = left_over p x after is
 filtered_at p (y ∷ before) x after is = elim (cases_Bool (p y)) [
-  | inl t ↦ kept p y (before ++ x ∷ after) t ∙ ap (λ ys. y ∷ ys) (filtered_at p before x after is)
-      ∙ ap (λ ys. ys ++ x ∷ filter p after) (sym (kept p y before t))
+  | inl t ↦ left_over p y (before ++ x ∷ after) t ∙ ap (λ ys. y ∷ ys) (filtered_at p before x after is)
+      ∙ ap (λ ys. ys ++ x ∷ filter p after) (sym (left_over p y before t))
   | inr f ↦ dropped p y (before ++ x ∷ after) f ∙ filtered_at p before x after is
       ∙ ap (λ ys. ys ++ x ∷ filter p after) (sym (dropped p y before f))
 ]
@@ -103,19 +103,19 @@ module _ (side : Side) (block : ℕ) (on : is_on side block ≡ true) where
       ap (λ (b : Bool). if b then bytes else content) (apart side block other on off)
   untouched (settles other) content off = refl
 
-  unspoiled : (call : DeviceCall) (result : Result Unit Failed) → is_of side call ≡ false
-      → spoils_block block (file_call call) result ≡ false
-  unspoiled (reads other bytes) result off = refl
-  unspoiled (writes other bytes) (Ok u) off = refl
-  unspoiled (writes other bytes) (Err u) off = apart side block other on off
-  unspoiled (settles other) result off = refl
+  certain : (call : DeviceCall) (result : Result Unit Failed) → is_of side call ≡ false
+      → makes_block_uncertain block (file_call call) result ≡ false
+  certain (reads other bytes) result off = refl
+  certain (writes other bytes) (Ok u) off = refl
+  certain (writes other bytes) (Err u) off = apart side block other on off
+  certain (settles other) result off = refl
 
   same_stored : (calls : AnsweredCalls) (content : Content)
       → stored block content (file_calls (of_side side calls)) ≡ stored block content (file_calls calls)
   same_stored [] content = refl
   same_stored (one ∷ calls) content = elim (cases_Bool (is_of side one.0)) [
     | inl t ↦ ap (λ (cs : AnsweredCalls). stored block content (file_calls cs))
-        (kept (λ (c : Answered). is_of side c.0) one calls t)
+        (left_over (λ (c : Answered). is_of side c.0) one calls t)
         ∙ same_stored calls (put block (file_call one.0) content)
     | inr f ↦ ap (λ (cs : AnsweredCalls). stored block content (file_calls cs))
         (dropped (λ (c : Answered). is_of side c.0) one calls f)
@@ -123,17 +123,17 @@ module _ (side : Side) (block : ℕ) (on : is_on side block ≡ true) where
         ∙ ap (λ (c : Content). stored block c (file_calls calls)) (sym (untouched one.0 content f))
   ]
 
-  same_spoiled : (calls : AnsweredCalls)
-      → is_spoiled block (file_calls (of_side side calls)) ≡ is_spoiled block (file_calls calls)
-  same_spoiled [] = refl
-  same_spoiled (one ∷ calls) = elim (cases_Bool (is_of side one.0)) [
-    | inl t ↦ ap (λ (cs : AnsweredCalls). is_spoiled block (file_calls cs))
-        (kept (λ (c : Answered). is_of side c.0) one calls t)
-        ∙ ap (λ (b : Bool). spoils_block block (file_call one.0) one.1 || b) (same_spoiled calls)
-    | inr f ↦ ap (λ (cs : AnsweredCalls). is_spoiled block (file_calls cs))
+  same_uncertain : (calls : AnsweredCalls)
+      → is_uncertain block (file_calls (of_side side calls)) ≡ is_uncertain block (file_calls calls)
+  same_uncertain [] = refl
+  same_uncertain (one ∷ calls) = elim (cases_Bool (is_of side one.0)) [
+    | inl t ↦ ap (λ (cs : AnsweredCalls). is_uncertain block (file_calls cs))
+        (left_over (λ (c : Answered). is_of side c.0) one calls t)
+        ∙ ap (λ (b : Bool). makes_block_uncertain block (file_call one.0) one.1 || b) (same_uncertain calls)
+    | inr f ↦ ap (λ (cs : AnsweredCalls). is_uncertain block (file_calls cs))
         (dropped (λ (c : Answered). is_of side c.0) one calls f)
-        ∙ same_spoiled calls
-        ∙ ap (λ (b : Bool). b || is_spoiled block (file_calls calls)) (sym (unspoiled one.0 one.1 f))
+        ∙ same_uncertain calls
+        ∙ ap (λ (b : Bool). b || is_uncertain block (file_calls calls)) (sym (certain one.0 one.1 f))
   ]
 
 -- ---- honest to each side
@@ -143,7 +143,7 @@ module _ (first : ℕ → Content) (size : ℕ) where
   read_on : (side : Side) (asked before after : AnsweredCalls) (block : ℕ) (bytes : Content)
       → IsHonestTo first size side asked
       → of_side side (before ++ (reads block bytes, Ok tt) ∷ after) ≡ asked_for size side asked
-      → is_on side block ≡ true → is_spoiled block (file_calls before) ≡ false
+      → is_on side block ≡ true → is_uncertain block (file_calls before) ≡ false
       → bytes ≡ stored block (first block) (file_calls before)
   read_on side asked before after block bytes honest come on clean =
       let parted_at : file_calls (asked_for size side asked)
@@ -155,14 +155,14 @@ module _ (first : ℕ → Content) (size : ℕ) where
       ((reads block bytes, Ok tt) ∷ of_side side after) in
       honest (file_calls (of_side side before)) (file_calls (of_side side after)) (file_call (reads block bytes))
       parted_at block (same_block block block ∙ eq-eqb block block refl)
-      (same_spoiled side block on before ∙ clean)
+      (same_uncertain side block on before ∙ clean)
       ∙ same_stored side block on before (first block)
 
   module _ (log home calls : AnsweredCalls) (to_log : IsHonestTo first size Log log)
       (to_home : IsHonestTo first size Home home) (come : ComeInOrder size log home calls) where
     read_in : (before after : AnsweredCalls) (block : ℕ) (bytes : Content) (on : Bool)
         → is_on Log block ≡ on → calls ≡ before ++ (reads block bytes, Ok tt) ∷ after
-        → is_spoiled block (file_calls before) ≡ false → bytes ≡ stored block (first block) (file_calls before)
+        → is_uncertain block (file_calls before) ≡ false → bytes ≡ stored block (first block) (file_calls before)
     read_in before after block bytes true on are clean =
         read_on Log log before after block bytes to_log (ap (of_side Log) (sym are) ∙ come.0) on clean
     read_in before after block bytes false on are clean =
@@ -198,17 +198,17 @@ module _ (first : ℕ → Content) (size : ℕ) (calls : AnsweredCalls) where
 
   made_next : (call : DeviceCall) (result : Result Unit Failed) → KeepsModel first size (next call result)
       → Makes (file_device first size (file_calls calls)) call result (file_device first size (next call result))
-  made_next (reads block bytes) result keeps = (
+  made_next (reads block bytes) result preserves = (
     has_read first size (file_calls calls) (block * BLOCK_BYTES) (record { marker = record {}; value = bytes })
         result,
     counts first size (file_calls calls) (file_call (reads block bytes)) result,
-    explained first size (file_calls calls) block (record { marker = record {}; value = bytes }) result keeps,
+    explained first size (file_calls calls) block (record { marker = record {}; value = bytes }) result preserves,
   )
-  made_next (writes block bytes) result keeps = (
+  made_next (writes block bytes) result preserves = (
     has_written first size (file_calls calls) block (record { marker = record {}; value = bytes }) result,
     counts first size (file_calls calls) (file_call (writes block bytes)) result,
   )
-  made_next (settles side) result keeps = (
+  made_next (settles side) result preserves = (
     has_settled first size (file_calls calls) side result,
     counts first size (file_calls calls) (file_call (settles side)) result,
   )
@@ -217,7 +217,7 @@ module _ (first : ℕ → Content) (size : ℕ) (calls : AnsweredCalls) where
       → KeepsModel first size (file_calls (calls ++ (call, result) ∷ later))
       → Makes (file_device first size (file_calls calls)) call result
       (file_device first size (file_calls (calls ++ (call, result) ∷ [])))
-  made later call result keeps =
+  made later call result preserves =
       let last : file_calls (calls ++ (call, result) ∷ []) ≡ next call result =
       map-append (λ (c : Answered). (file_call c.0, c.1)) calls ((call, result) ∷ []) in
       let all : file_calls (calls ++ (call, result) ∷ later) ≡ next call result ++ file_calls later =
@@ -225,5 +225,5 @@ module _ (first : ℕ → Content) (size : ℕ) (calls : AnsweredCalls) where
       ∙ sym (append_assoc (file_calls calls) ((file_call call, result) ∷ []) (file_calls later)) in
       subst (λ (cs : Calls). Makes (file_device first size (file_calls calls)) call result
       (file_device first size cs)) (sym last)
-      (made_next call result (keeps_before first size (next call result) (file_calls later)
-      (subst (λ (cs : Calls). KeepsModel first size cs) all keeps)))
+      (made_next call result (preserves_before first size (next call result) (file_calls later)
+      (subst (λ (cs : Calls). KeepsModel first size cs) all preserves)))

@@ -6,7 +6,7 @@ use Rattle.std.proofs.Math.Seq.{get_or-append_seam}
 use Rattle.disk.specs.declared.device.Failed.{Failed}
 use Rattle.disk_file.specs.declared.file.FileCall.{FileCall}
 use Rattle.disk_file.specs.declared.file.FileCall.TheVariants.{Read, Write, Sync}
-use Rattle.disk.specs.Device.{Content, newest, newest_alone, is_on}
+use Rattle.disk.specs.Device.{Content, newest, newest_only, is_on}
 use Rattle.disk.specs.Blocks.{IsBlock}
 use Rattle.disk_file.specs.File.{Calls, EachFits, IsExplainedCall, IsHonest, KeepsModel, contents_after, effect, is_at}
 use Rattle.disk_file.specs.File.{put, stored}
@@ -25,7 +25,7 @@ either_written true contents content = newest_appended contents content
 either_written false contents content = refl
 
 either_settled : (b : Bool) (contents : List Content)
-    → newest (if b then newest_alone contents else contents) ≡ newest contents
+    → newest (if b then newest_only contents else contents) ≡ newest contents
 either_settled true contents = newest_settled contents
 either_settled false contents = refl
 
@@ -54,10 +54,10 @@ explained first earlier (Write at bytes) honest = tt
 explained first earlier (Sync side) honest = tt
 
 -- what answers honestly keeps the model
-pub honest_keeps : (first : ℕ → Content) (size : ℕ) (calls : Calls)
+pub honest_preserves : (first : ℕ → Content) (size : ℕ) (calls : Calls)
     → ((block : ℕ) → block < size → IsBlock (first block)) → EachFits (IsHonest first) calls
     → KeepsModel first size calls
-honest_keeps first size calls blocks honest = record {
+honest_preserves first size calls blocks honest = record {
   blocks = blocks;
   explained = λ earlier later call h. explained first earlier call (honest earlier later call h);
 }

@@ -6,4 +6,4 @@ use Rattle.disk.specs.Device.{Content}
 pub record EndWith (first : ℕ) (bytes : List ℕ) (offset : ℕ) (content : Content) : Type 0 where
   pub before : List ℕ
   pub whole : bytes ≡ before ++ content
-  pub place : offset ≡ first + length before
+  pub is_contiguous : offset ≡ first + length before

@@ -9,7 +9,7 @@ use Rattle.disk_file.specs.declared.file.FileCall.{FileCall}
 use Rattle.disk_file.specs.declared.file.FileCall.TheVariants.{Read, Write, Sync}
 use Rattle.base.specs.declared.TheConstants.{BLOCK_BYTES}
 use Rattle.disk.specs.Blocks.{IsBlock}
-use Rattle.disk.specs.Device.{Content, Device, newest, newest_alone, is_on}
+use Rattle.disk.specs.Device.{Content, Device, newest, newest_only, is_on}
 
 -- the calls so far, each with its result
 abbrev pub Calls : Type 0
@@ -44,7 +44,7 @@ abbrev pub effect : ℕ → FileCall → Result Unit Failed → List Content →
 effect block (Read at bytes) result contents = contents
 effect block (Write at bytes) result contents = if is_at block at then contents ++ bytes.value ∷ []
     else contents
-effect block (Sync side) (Ok _) contents = if is_on side block then newest_alone contents else contents
+effect block (Sync side) (Ok _) contents = if is_on side block then newest_only contents else contents
 effect block (Sync side) (Err _) contents = contents
 
 -- what a block of a file holds after a call, where it held this before it
@@ -60,14 +60,14 @@ contents_after block contents (call ∷ calls) =
     contents_after block (effect block call.0 call.1 contents) calls
 
 -- it was a write of the block, which failed
-abbrev pub spoils_block : ℕ → FileCall → Result Unit Failed → Bool
-spoils_block block (Read at bytes) result = false
-spoils_block block (Write at bytes) result = is_err result && is_at block at
-spoils_block block (Sync side) result = false
+abbrev pub makes_block_uncertain : ℕ → FileCall → Result Unit Failed → Bool
+makes_block_uncertain block (Read at bytes) result = false
+makes_block_uncertain block (Write at bytes) result = is_err result && is_at block at
+makes_block_uncertain block (Sync side) result = false
 
 -- a write of the block is among the calls, and failed
-abbrev pub is_spoiled : ℕ → Calls → Bool
-is_spoiled block calls = list_any (λ call. spoils_block block call.0 call.1) calls
+abbrev pub is_uncertain : ℕ → Calls → Bool
+is_uncertain block calls = list_any (λ call. makes_block_uncertain block call.0 call.1) calls
 
 -- whether the call of this number among them failed; past them none did
 abbrev pub failed_in : Calls → ℕ → Bool
@@ -92,13 +92,13 @@ file_device first size calls = record {
   failed = λ call. failed_in calls call;
   lost = λ call. lost_in calls call;
   contents = λ clock block. contents_after block (first block ∷ []) (take clock calls);
-  spoiled = λ block. is_spoiled block calls;
+  uncertain = λ block. is_uncertain block calls;
 }
 
 -- a read that brings the newest content of its block, unless a write of the block had failed
 abbrev pub IsExplainedCall : (ℕ → Content) → Calls → FileCall → Type 0
 IsExplainedCall first earlier (Read at bytes) = (block : ℕ) → is_at block at ≡ true
-    → is_spoiled block earlier ≡ false
+    → is_uncertain block earlier ≡ false
     → bytes.value ≡ newest (contents_after block (first block ∷ []) earlier)
 IsExplainedCall first earlier (Write at bytes) = Unit
 IsExplainedCall first earlier (Sync side) = Unit
@@ -121,6 +121,6 @@ stored block content (call ∷ calls) = stored block (put block call.0 content) 
 -- what a file answers to a read: what its block holds, or where a write of it has failed anything
 abbrev pub IsHonest : (ℕ → Content) → Calls → FileCall → Type 0
 IsHonest first earlier (Read at bytes) = (block : ℕ) → is_at block at ≡ true
-    → is_spoiled block earlier ≡ false → bytes.value ≡ stored block (first block) earlier
+    → is_uncertain block earlier ≡ false → bytes.value ≡ stored block (first block) earlier
 IsHonest first earlier (Write at bytes) = Unit
 IsHonest first earlier (Sync side) = Unit

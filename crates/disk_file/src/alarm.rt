@@ -32,7 +32,7 @@ impl Asked {
 #[derive(Drop)]
 pub struct Alarm<'a, R> {
     rt: &'a R,
-    is_told: AtomicBool,
+    has_fired: AtomicBool,
 }
 
 impl<'a, R: Clock + Eprint> Alarm<'a, R> {
@@ -40,14 +40,14 @@ impl<'a, R: Clock + Eprint> Alarm<'a, R> {
     pub fn new(rt: &'a R) -> Alarm<'a, R> {
         Alarm {
             rt,
-            is_told: AtomicBool::new(false),
+            has_fired: AtomicBool::new(false),
         }
     }
 
     /// Tells that this failed, unless something was told before. Where standard error is closed or full, only this
     /// line is lost.
     pub fn tell(&self, asked: Asked, error: &io::Error) {
-        if self.is_told.swap(true, Ordering::SeqCst) {
+        if self.has_fired.swap(true, Ordering::SeqCst) {
             return;
         }
         let what = asked.text();

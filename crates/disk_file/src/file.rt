@@ -65,19 +65,19 @@ pub enum FileCall {
 /// A file and the calls that were made of it. Who has one can't call the file without a note of it. The notes
 /// are for proofs alone, in `http_server`'s `Log`, and take no memory.
 #[derive(Drop)]
-pub struct NotedFile<F: BlockFile> {
+pub struct TracedFile<F: BlockFile> {
     file: F,
     calls: Log<FileCall, Result<(), Failed>>,
     ghost whole: { AreOfBlocks calls.items },
 }
 
-impl<F: BlockFile> NotedFile<F> {
+impl<F: BlockFile> TracedFile<F> {
     /// A file of which no call is noted.
-    pub fn new(file: F) -> NotedFile<F>
+    pub fn new(file: F) -> TracedFile<F>
         ensures calls { result.calls.items ≡ [] }
         ensures file { result.file ≡ file }
     {
-        NotedFile {
+        TracedFile {
             file,
             calls: Log::new(),
         }
@@ -94,7 +94,7 @@ impl<F: BlockFile> NotedFile<F> {
             .read_exact_at(out.as_mut_slice(), offset)
             .or(Err(Failed));
         out.whole();
-        self.note(&FileCall::Read(offset, Snapshot::of(out)), &result);
+        self.trace(&FileCall::Read(offset, Snapshot::of(out)), &result);
         result
     }
 
@@ -108,7 +108,7 @@ impl<F: BlockFile> NotedFile<F> {
             .file
             .write_all_at(content.as_slice(), offset)
             .or(Err(Failed));
-        self.note(&FileCall::Write(offset, Snapshot::of(content)), &result);
+        self.trace(&FileCall::Write(offset, Snapshot::of(content)), &result);
         result
     }
 
@@ -118,7 +118,7 @@ impl<F: BlockFile> NotedFile<F> {
         ensures file { self.new.file ≡ self.old.file }
     {
         let result = self.file.sync_data().or(Err(Failed));
-        self.note(&FileCall::Sync(side), &result);
+        self.trace(&FileCall::Sync(side), &result);
         result
     }
 
@@ -128,7 +128,7 @@ impl<F: BlockFile> NotedFile<F> {
         Ok(one.dev() == two.dev() && one.ino() == two.ino())
     }
 
-    fn note(&mut self, call: &FileCall, outcome: &Result<(), Failed>)
+    fn trace(&mut self, call: &FileCall, outcome: &Result<(), Failed>)
         requires { IsBlock (bytes_of call.now) }
         ensures calls { self.new.calls.items ≡ self.old.calls.items ++ (call.now, outcome.now) ∷ [] }
         ensures file { self.new.file ≡ self.old.file }

@@ -4,7 +4,7 @@ ghost use Rattle.base.specs.declared.TheConstants.{BLOCK_BYTES};
 ghost use Rattle.disk.specs.Crash.{IsAtRest};
 ghost use Rattle.disk_file.specs.File.{file_device, first_in};
 
-use crate::file::NotedFile;
+use crate::file::TracedFile;
 use crate::{BlockFile, FirstContents, open_locked};
 use base::BLOCK_BYTES;
 use disk::{Block, BlockNo, CrashDisk, Failed, Side};
@@ -15,12 +15,12 @@ use std::os::unix::fs::OpenOptionsExt;
 use std::path::Path;
 
 // The permission bits of a file that is made: it holds the files of every user, so it is its owner's alone.
-const OWNER_ALONE: u32 = 0o600;
+const OWNER_ONLY: u32 = 0o600;
 
 /// A device over a file. What the file held when it was opened is any: no contract of an opening says it.
 #[derive(Drop)]
 pub struct FileDisk<F: BlockFile> {
-    file: NotedFile<F>,
+    file: TracedFile<F>,
     blocks: u32,
     first: FirstContents,
 }
@@ -32,7 +32,7 @@ fn open_or_make<R: Files>(rt: &R, path: &str) -> io::Result<R::File> {
     options.read(true).write(true);
     match options.open(rt, path) {
         Err(error) if error.kind() == ErrorKind::NotFound => {
-            options.create_new(true).mode(OWNER_ALONE);
+            options.create_new(true).mode(OWNER_ONLY);
             let file = options.open(rt, path)?;
             File::open(rt, folder_of(path))?.sync_all()?;
             Ok(file)
@@ -65,7 +65,7 @@ impl<F: BlockFile> FileDisk<F> {
             result.file.calls.items) }
     {
         FileDisk {
-            file: NotedFile::new(file),
+            file: TracedFile::new(file),
             blocks,
             first: FirstContents::whatever(),
         }
@@ -124,7 +124,7 @@ impl<F: BlockFile> CrashDisk for FileDisk<F> {
 
     ghost keeps_model = { λ d. KeepsModel (first_in d.first.blocks.items) d.blocks d.file.calls.items };
 
-    ghost whole = { λ d keeps. file_blocks (first_in d.first.blocks.items) d.blocks d.file.calls.items keeps
+    ghost whole = { λ d preserves. file_blocks (first_in d.first.blocks.items) d.blocks d.file.calls.items preserves
         d.file.whole };
 
     fn blocks(&self) -> u32 {

@@ -5,7 +5,7 @@
 mod alarm;
 mod file;
 mod file_disk;
-mod laws;
+mod file_laws;
 mod threaded_disk;
 mod watched;
 
@@ -13,7 +13,7 @@ pub use alarm::{Alarm, Asked};
 pub use file::ports::{FilePort, FileSource};
 pub use file::{BlockFile, FileCall, FirstContents, open_locked};
 pub use file_disk::FileDisk;
-pub use laws::{
+pub use file_laws::{
     a_file_honest_to_each_side_keeps_the_model, a_file_may_begin_with_each_image,
     calls_of_a_file_are_the_devices, honest_file_keeps_model,
 };

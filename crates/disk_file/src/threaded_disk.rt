@@ -3,9 +3,9 @@ ghost use Rattle.std.specs.Prelude.{◌≡◌, [], true, IfOk};
 ghost use Rattle.disk.specs.Crash.{IsAtRest};
 ghost use Rattle.disk_file.specs.File.{file_device, first_in};
 
-mod splitting;
+mod split;
 
-use crate::file::NotedFile;
+use crate::file::TracedFile;
 use crate::file_disk::offset;
 use crate::{BlockFile, FirstContents};
 use disk::{Block, BlockNo, CrashDisk, Failed, Side};
@@ -17,7 +17,7 @@ use std::io::ErrorKind;
 /// it.
 #[derive(Drop)]
 pub struct ThreadedDisk<F: BlockFile> {
-    file: NotedFile<F>,
+    file: TracedFile<F>,
     home: F,
     blocks: u32,
     first: FirstContents,
@@ -34,7 +34,7 @@ impl<F: BlockFile> ThreadedDisk<F> {
         ensures rest { IfOk result (λ d. IsAtRest (file_device (first_in d.first.blocks.items) d.blocks
             d.file.calls.items)) }
     {
-        let file = NotedFile::new(file);
+        let file = TracedFile::new(file);
         if !file.is_same(&home)? {
             return Err(io::Error::from(ErrorKind::InvalidInput));
         }
@@ -73,7 +73,7 @@ impl<F: BlockFile> CrashDisk for ThreadedDisk<F> {
 
     ghost keeps_model = { λ d. KeepsModel (first_in d.first.blocks.items) d.blocks d.file.calls.items };
 
-    ghost whole = { λ d keeps. file_blocks (first_in d.first.blocks.items) d.blocks d.file.calls.items keeps
+    ghost whole = { λ d preserves. file_blocks (first_in d.first.blocks.items) d.blocks d.file.calls.items preserves
         d.file.whole };
 
     fn blocks(&self) -> u32 {

@@ -18,10 +18,10 @@ use Rattle.bitmap.proofs.Ranges.{one_if}
 use Rattle.image_read.specs.Laws.TreeOf.{files_below, tree_of, with_file}
 
 module _ (file : ℕ → Option Node) where
-  kept : (k q : ℕ) → k < q → (o : Option Node) (nodes : FinMap nat_cmp Node) → get nodes q ≡ None
+  is_preserved : (k q : ℕ) → k < q → (o : Option Node) (nodes : FinMap nat_cmp Node) → get nodes q ≡ None
       → get (with_file k o nodes) q ≡ None
-  kept k q less None nodes none = none
-  kept k q less (Some node) nodes none =
+  is_preserved k q less None nodes none = none
+  is_preserved k q less (Some node) nodes none =
       get-insert nat_cmp_total nodes k node q
       ∙ ap (λ b. cond b (Some node) (get nodes q))
       (not_equal q k (λ is. omega (arith, is, less)) (eq_by_cmp nat_cmp q k) refl) ∙ none
@@ -30,7 +30,7 @@ module _ (file : ℕ → Option Node) where
   unfolding files_below
   none_there zero q more = get-empty nat_cmp q
   none_there (suc n) q more =
-      kept n q (omega (arith, more)) (file n) (files_below file n) (none_there n q (omega (arith, more)))
+      is_preserved n q (omega (arith, more)) (file n) (files_below file n) (none_there n q (omega (arith, more)))
 
   one_more : (k : ℕ) (o : Option Node) (nodes : FinMap nat_cmp Node) → get nodes k ≡ None
       → len (with_file k o nodes) ≡ len nodes + one_if (is_some o)

@@ -13,18 +13,18 @@ use Rattle.layout.specs.InodeForm.{SoundInode, is_sound_inode, is_sound_kind}
 use Rattle.layout.specs.SlotForm.{read_slot}
 use Rattle.layout.proofs.AllNumbers.{all-length, maps}
 use Rattle.image_read.specs.Files.Slots.{IsSpanned}
-use Rattle.image_read.proofs.FilesLemmas.AllMapped.{all_mapped, near_mapped, no_below, no_row}
+use Rattle.image_read.proofs.FilesLemmas.AllMapped.{all_mapped, mapped_before_double, no_below, no_row}
 use Rattle.image_read.proofs.LawsLemmas.SoundKinds.{few_spanned, no_double_of_link, no_indirect_of_link}
 use Rattle.image_read.specs.Laws.TreeOf.{HasNames}
 use Rattle.image_contents.proofs.NamesLemmas.Directory.{are_names, has_names, once}
-use Rattle.image_contents.specs.Bodies.Bodies.{HasBlocksOf, IsTidyOf}
+use Rattle.image_contents.specs.Bodies.Bodies.{HasBlocksOf, IsCleanOf}
 use Rattle.image_check.proofs.SlotBytes.{slots_are_bytes}
 
 module _ (g : Geometry) (content : Image) (inode : Inode) (sound : SoundInode g inode) where
   link_mapped : is_sound_kind g Link inode ≡ true → IsMapped g content inode
   link_mapped good =
       all_mapped g content inode
-      (near_mapped g content inode (maps g inode sound).0
+      (mapped_before_double g content inode (maps g inode sound).0
       (no_row g content inode.indirect (no_indirect_of_link g inode good)))
       (no_below g content inode.double (no_double_of_link g inode good))
 
@@ -58,16 +58,16 @@ module _ (g : Geometry) (content : Image) (inode : Inode) (sound : SoundInode g 
 
   -- ---- each kind
 
-  is_of_kind : (kind : InodeKind) → HasBlocksOf g content kind inode → IsTidyOf g content kind inode
+  is_of_kind : (kind : InodeKind) → HasBlocksOf g content kind inode → IsCleanOf g content kind inode
       → IsOfKind g content kind inode
-  is_of_kind Regular blocks tidy = record { mapped = blocks; zeros = tidy }
-  is_of_kind Directory blocks tidy = record {
+  is_of_kind Regular blocks is_clean = record { mapped = blocks; zeros = is_clean }
+  is_of_kind Directory blocks is_clean = record {
     mapped = blocks.0;
     spans = blocks.1.first;
     slots = slots_all blocks.1;
-    once = once g.inodes content inode tidy;
+    once = once g.inodes content inode is_clean;
   }
-  is_of_kind Link blocks tidy = record { zeros = tidy }
+  is_of_kind Link blocks is_clean = record { zeros = is_clean }
 
   has_blocks_of : (kind : InodeKind) → is_sound_kind g kind inode ≡ true → IsOfKind g content kind inode
       → HasBlocksOf g content kind inode
@@ -75,29 +75,29 @@ module _ (g : Geometry) (content : Image) (inode : Inode) (sound : SoundInode g 
   has_blocks_of Directory good is = (is.mapped, spanned_by good is)
   has_blocks_of Link good is = link_mapped good
 
-  is_tidy_of : (kind : InodeKind) → (kind ≡ Directory → HasNames g content inode) → IsOfKind g content kind inode
-      → IsTidyOf g content kind inode
-  is_tidy_of Regular names is = is.zeros
-  is_tidy_of Directory names is = are_names g content inode (names refl) is.once
-  is_tidy_of Link names is = is.zeros
+  file_is_clean_of : (kind : InodeKind) → (kind ≡ Directory → HasNames g content inode) → IsOfKind g content kind inode
+      → IsCleanOf g content kind inode
+  file_is_clean_of Regular names is = is.zeros
+  file_is_clean_of Directory names is = are_names g content inode (names refl) is.once
+  file_is_clean_of Link names is = is.zeros
 
   good_kind : is_sound_kind g inode.kind inode ≡ true
   unfolding is_sound_inode
   good_kind = sound.good
 
-  pub file_is : HasBlocksOf g content inode.kind inode → IsTidyOf g content inode.kind inode
+  pub file_is : HasBlocksOf g content inode.kind inode → IsCleanOf g content inode.kind inode
       → IsFile g content (Ok (Some inode))
-  file_is blocks tidy = is_of_kind inode.kind blocks tidy
+  file_is blocks is_clean = is_of_kind inode.kind blocks is_clean
 
   pub has_blocks : IsFile g content (Ok (Some inode)) → HasBlocksOf g content inode.kind inode
   has_blocks is = has_blocks_of inode.kind good_kind is
 
-  pub is_tidy : (inode.kind ≡ Directory → HasNames g content inode) → IsFile g content (Ok (Some inode))
-      → IsTidyOf g content inode.kind inode
-  is_tidy names is = is_tidy_of inode.kind names is
+  pub file_is_clean : (inode.kind ≡ Directory → HasNames g content inode) → IsFile g content (Ok (Some inode))
+      → IsCleanOf g content inode.kind inode
+  file_is_clean names is = file_is_clean_of inode.kind names is
 
-  pub names_of_tidy : ((number : ℕ) → AreBytes (content number)) → inode.kind ≡ Directory
-      → IsTidyOf g content inode.kind inode → HasNames g content inode
-  names_of_tidy bytes kind tidy =
+  pub names_of_clean : ((number : ℕ) → AreBytes (content number)) → inode.kind ≡ Directory
+      → IsCleanOf g content inode.kind inode → HasNames g content inode
+  names_of_clean bytes kind is_clean =
       has_names g content inode (slots_are_bytes content bytes g.inodes inode)
-      (subst (λ k. IsTidyOf g content k inode) kind tidy)
+      (subst (λ k. IsCleanOf g content k inode) kind is_clean)

@@ -26,7 +26,7 @@ use Rattle.layout.proofs.FreshBytes.{zero_block}
 use Rattle.layout.proofs.Fits.{part-length, read_fits}
 use Rattle.layout.proofs.Holding.{holds_of}
 use Rattle.dir.proofs.Members.{none_some, same}
-use Rattle.image_read.specs.Tallies.Tally.{IsOwned}
+use Rattle.image_read.specs.ImageCounts.Tally.{IsOwned}
 use Rattle.image_read.specs.Parts.Marks.{AreMarked}
 use Rattle.image_read.specs.Parts.Table.{HasRefusedInode}
 use Rattle.image_read.proofs.FilesLemmas.AtHome.{in_table, same_content}
@@ -34,7 +34,7 @@ use Rattle.image_read.specs.Laws.TreeOf.{HasNames, tree_of}
 use Rattle.image_read.specs.Laws.Whole.{IsWhole}
 use Rattle.image_read.proofs.LawsLemmas.Made.{files_are, none_past}
 use Rattle.image_read.proofs.LawsLemmas.Marks.{not_shared}
-use Rattle.image_read.proofs.LawsLemmas.Room.{used_are}
+use Rattle.image_read.proofs.LawsLemmas.OwnedFit.{used_are}
 use Rattle.image_read.proofs.LawsLemmas.Whole.{stands_whole}
 use Rattle.image_read.proofs.LawsLemmas.WholeBack.{whole_of}
 use Rattle.image_contents.specs.Found.Counted.{IsCounted}
@@ -42,13 +42,13 @@ use Rattle.image_contents.proofs.FoundLemmas.Facts.{below, same_option}
 use Rattle.image_contents.proofs.FoundLemmas.Linked.{are_linked}
 use Rattle.image_contents.proofs.FoundLemmas.Whole.{is_whole}
 use Rattle.image_contents.specs.declared.bodies.found.Found.{Found}
-use Rattle.image_contents.specs.Bodies.Bodies.{AreAsRead, FitsFound, HasBlocks, IsFound, IsTidy, IsSoundIfAny}
+use Rattle.image_contents.specs.Bodies.Bodies.{AreAsRead, FitsFound, HasBlocks, IsFound, IsClean, IsSoundIfAny}
 use Rattle.image_contents.proofs.FoundLemmas.Counting.{is_counted, is_owned}
 use Rattle.image_check.specs.Refused.{IsRefusal}
 use Rattle.image_check.specs.Searched.{AreBlocksOf, AreMadeBy, IsJudged, IsNoTree, IsRead, IsSearched, IsTreeBy}
 use Rattle.image_check.specs.Searched.{IsTreeWith}
 use Rattle.image_check.specs.declared.fault.CheckFault.{CheckFault}
-use Rattle.image_check.specs.declared.judging.Counts.{Counts}
+use Rattle.image_check.specs.declared.judgement.Counts.{Counts}
 use Rattle.image_check.proofs.Counted.{files_are_counted}
 use Rattle.image_check.proofs.Files as files
 use Rattle.image_check.proofs.Homes.{blocks_are, in_blocks}
@@ -102,9 +102,9 @@ module _ (g : Geometry) (boot : ℕ) (image : Image) where
         → SoundInode g inode
     unfolding inode_at
     sound_at number less inode is =
-        let room = g.lawful.1.3 in
+        let has_space = g.lawful.1.3 in
         let whole = g.lawful.1.2 in
-        let block = read.blocks (inode_block g number) (omega (arith, less, room, whole)) in
+        let block = read.blocks (inode_block g number) (omega (arith, less, has_space, whole)) in
         let long = block.0 in
         let bytes = take INODE_BYTES (drop (inode_offset number) (image (inode_block g number))) in
         read_fits g bytes
@@ -114,11 +114,11 @@ module _ (g : Geometry) (boot : ℕ) (image : Image) where
         inode (read.inodes.each number less ∙ ap Ok is)
 
     sound_if_any : (number : ℕ) → number < g.inodes → IsSoundIfAny g (get_or table number None)
-    sound_if_any number less = by_entry (get_or table number None) (sound_at number less)
+    sound_if_any number less = by_inode_option (get_or table number None) (sound_at number less)
       where
-        by_entry : (o : Option Inode) → ((inode : Inode) → o ≡ Some inode → SoundInode g inode) → IsSoundIfAny g o
-        by_entry (Some inode) sound = sound inode refl
-        by_entry None sound = tt
+        by_inode_option : (o : Option Inode) → ((inode : Inode) → o ≡ Some inode → SoundInode g inode) → IsSoundIfAny g o
+        by_inode_option (Some inode) sound = sound inode refl
+        by_inode_option None sound = tt
 
     -- what the pass over the bodies wants to know
     pub as_read : AreAsRead g content table
@@ -132,13 +132,13 @@ module _ (g : Geometry) (boot : ℕ) (image : Image) where
 
     has_blocks_at : (number : ℕ) → number < g.inodes → IsFile g content (Ok (get_or table number None))
         → HasBlocks g content (get_or table number None)
-    has_blocks_at number less = by_entry (get_or table number None) (sound_at number less)
+    has_blocks_at number less = by_inode_option (get_or table number None) (sound_at number less)
       where
-        by_entry : (o : Option Inode) → ((inode : Inode) → o ≡ Some inode → SoundInode g inode)
+        by_inode_option : (o : Option Inode) → ((inode : Inode) → o ≡ Some inode → SoundInode g inode)
             → IsFile g content (Ok o)
             → HasBlocks g content o
-        by_entry (Some inode) sound is = files.has_blocks g content inode (sound inode refl) is
-        by_entry None sound is = tt
+        by_inode_option (Some inode) sound is = files.has_blocks g content inode (sound inode refl) is
+        by_inode_option None sound is = tt
 
     -- the blocks of a file aren't as one file may have them
     pub no_blocks : (((number : ℕ) → number < g.inodes → HasBlocks g content (get_or table number None)) → ⊥)
@@ -151,8 +151,8 @@ module _ (g : Geometry) (boot : ℕ) (image : Image) where
       found_home : IsFound g (content_in g home) table g.inodes found
       found_home = subst (λ (k : Image). IsFound g k table g.inodes found) (sym (same_content g image)) is_found
 
-      kept : IsOwned (owned g (parts_of g home)) found.owners
-      kept = is_owned g home table are found found_home
+      is_preserved : IsOwned (owned g (parts_of g home)) found.owners
+      is_preserved = is_owned g home table are found found_home
 
       counted : IsCounted g home table found.links
       counted = is_counted g home table are long found fits found_home
@@ -160,53 +160,53 @@ module _ (g : Geometry) (boot : ℕ) (image : Image) where
       -- a block has two owners
       pub no_shared : found.owners.shared ≡ true → IsNoTree g boot image
       no_shared shared tree stands made =
-          not_shared g (parts_of g home) found.owners kept fits.owners stands.parts.marked shared
+          not_shared g (parts_of g home) found.owners is_preserved fits.owners stands.parts.marked shared
 
       -- a bitmap doesn't mark what is in use
       pub no_marks : (AreMarked g image found.owners table → ⊥) → IsNoTree g boot image
       no_marks not tree stands made =
-          not (are_marked g image table found.owners long are kept fits.owners stands.parts.marked)
+          not (are_marked g image table found.owners long are is_preserved fits.owners stands.parts.marked)
 
       -- ---- the files make no tree
 
-      tidy_at : (whole : IsWhole g home) (number : ℕ) → number < g.inodes
+      clean_at : (whole : IsWhole g home) (number : ℕ) → number < g.inodes
           → IsFile g content (Ok (get_or table number None))
-          → IsTidy g content (get_or table number None)
-      tidy_at whole number less =
-          by_entry (get_or table number None) (sound_at number less) (λ inode is kind.
+          → IsClean g content (get_or table number None)
+      clean_at whole number less =
+          by_inode_option (get_or table number None) (sound_at number less) (λ inode is kind.
           subst (λ (k : Image). HasNames g k inode) (same_content g image)
           (whole.names number inode (are number less ∙ ap Ok is) kind))
         where
-          by_entry : (o : Option Inode) → ((inode : Inode) → o ≡ Some inode → SoundInode g inode)
+          by_inode_option : (o : Option Inode) → ((inode : Inode) → o ≡ Some inode → SoundInode g inode)
               → ((inode : Inode) → o ≡ Some inode → inode.kind ≡ Directory → HasNames g content inode)
-              → IsFile g content (Ok o) → IsTidy g content o
-          by_entry (Some inode) sound names is =
-              files.is_tidy g content inode (sound inode refl) (names inode refl) is
-          by_entry None sound names is = tt
+              → IsFile g content (Ok o) → IsClean g content o
+          by_inode_option (Some inode) sound names is =
+              files.file_is_clean g content inode (sound inode refl) (names inode refl) is
+          by_inode_option None sound names is = tt
 
-      is_tidy_found : (o : Option ℕ) → found.untidy ≡ o
-          → ((number : ℕ) → number < g.inodes → IsTidy g content (get_or table number None)) → found.untidy ≡ None
-      is_tidy_found None is each = is
-      is_tidy_found (Some number) is each =
-          let first = is_found.untidy number is in absurd (first.is (each number first.within))
+      found_is_clean : (o : Option ℕ) → found.unclean ≡ o
+          → ((number : ℕ) → number < g.inodes → IsClean g content (get_or table number None)) → found.unclean ≡ None
+      found_is_clean None is each = is
+      found_is_clean (Some number) is each =
+          let first = is_found.unclean number is in absurd (first.is (each number first.within))
 
       made_at : (tree : Tree) → Stands g home tree → IsMadeBy boot tree → AreMadeBy boot table
       made_at tree stands made number less =
-          by_entry (get_or table number None)
+          by_inode_option (get_or table number None)
           (stands.parts.has.files number
           ∙ ap (file_of g.inodes (content_in g home)) (are number (omega (arith, less, long))))
         where
-          by_entry : (o : Option Inode) → node_at tree number ≡ file_of g.inodes (content_in g home) (Ok o)
+          by_inode_option : (o : Option Inode) → node_at tree number ≡ file_of g.inodes (content_in g home) (Ok o)
               → IfSome o (λ inode. inode.stamp.boot ≤ boot)
-          by_entry (Some inode) is =
+          by_inode_option (Some inode) is =
               made number (node_with inode (body_of g.inodes (content_in g home) inode.kind inode)) is
-          by_entry None is = tt
+          by_inode_option None is = tt
 
       pub no_tree : (IsTreeBy boot table found → ⊥) → IsNoTree g boot image
       no_tree not tree stands made =
           let whole = whole_of g home tree stands in
           not (record {
-            tidy = is_tidy_found found.untidy refl (λ number less. tidy_at whole number less
+            is_clean = found_is_clean found.unclean refl (λ number less. clean_at whole number less
                 (file_at_same number less (stands.parts.has.inodes number less)));
             made = made_at tree stands made;
             linked = are_linked g home table found.links blocks counted whole;
@@ -217,17 +217,17 @@ module _ (g : Geometry) (boot : ℕ) (image : Image) where
       module _ (once : found.owners.shared ≡ false) (marks : AreMarked g image found.owners table)
           (by : IsTreeBy boot table found) where
         marked : IsMarked g (parts_of g home)
-        marked = is_marked g image table found.owners long are kept fits.owners once marks
+        marked = is_marked g image table found.owners long are is_preserved fits.owners once marks
 
         file_by : (number : ℕ) → number < g.inodes → IsFile g content (Ok (get_or table number None))
         file_by number less =
-            by_entry (get_or table number None) (sound_at number less) (is_found.blocks number less)
-            (is_found.tidy by.tidy number less)
+            by_inode_option (get_or table number None) (sound_at number less) (is_found.blocks number less)
+            (is_found.is_clean by.is_clean number less)
           where
-            by_entry : (o : Option Inode) → ((inode : Inode) → o ≡ Some inode → SoundInode g inode)
-                → HasBlocks g content o → IsTidy g content o → IsFile g content (Ok o)
-            by_entry (Some inode) sound has tidy = files.file_is g content inode (sound inode refl) has tidy
-            by_entry None sound has tidy = tt
+            by_inode_option : (o : Option Inode) → ((inode : Inode) → o ≡ Some inode → SoundInode g inode)
+                → HasBlocks g content o → IsClean g content o → IsFile g content (Ok o)
+            by_inode_option (Some inode) sound has is_clean = files.file_is g content inode (sound inode refl) has is_clean
+            by_inode_option None sound has is_clean = tt
 
         each : (number : ℕ) → number < g.inodes → IsFile g (content_in g home) (table_of g home number)
         each number less =
@@ -241,8 +241,8 @@ module _ (g : Geometry) (boot : ℕ) (image : Image) where
             let less = below g home number inode is in
             let entry = same_option (get_or table number None) (Some inode) (sym (are number less) ∙ is) in
             subst (λ (k : Image). HasNames g k inode) (sym (same_content g image))
-            (files.names_of_tidy g content inode (sound_at number less inode entry) content_bytes kind
-            (subst (λ o. IsTidy g content o) entry (is_found.tidy by.tidy number less)))
+            (files.names_of_clean g content inode (sound_at number less inode entry) content_bytes kind
+            (subst (λ o. IsClean g content o) entry (is_found.is_clean by.is_clean number less)))
 
         whole : IsWhole g home
         whole = is_whole g home table found.links blocks each names counted by.linked
@@ -253,18 +253,18 @@ module _ (g : Geometry) (boot : ℕ) (image : Image) where
         made : IsMadeBy boot (tree_of g home)
         made number node is = elim (cases_lt number g.inodes) [
           | inl less ↦
-              by_entry (get_or table number None) (by.made number (omega (arith, less, long)))
+              by_inode_option (get_or table number None) (by.made number (omega (arith, less, long)))
               (sym (ap (file_of g.inodes (content_in g home)) (are number less)) ∙ sym (files_are g home number) ∙ is)
           | inr past ↦
               absurd (none_some node (sym (none_past g home number past) ∙ sym (files_are g home number) ∙ is))
         ]
           where
-            by_entry : (o : Option Inode) → IfSome o (λ inode. inode.stamp.boot ≤ boot)
+            by_inode_option : (o : Option Inode) → IfSome o (λ inode. inode.stamp.boot ≤ boot)
                 → file_of g.inodes (content_in g home) (Ok o) ≡ Some node → node.stamp.boot ≤ boot
-            by_entry (Some inode) few e =
+            by_inode_option (Some inode) few e =
                 subst (λ (n : Node). n.stamp.boot ≤ boot)
                 (same (node_with inode (body_of g.inodes (content_in g home) inode.kind inode)) node e) few
-            by_entry None few e = absurd (none_some node e)
+            by_inode_option None few e = absurd (none_some node e)
 
         pub is_tree : (counts : Counts) → counts.files ≡ count_by (λ (o : Option Inode). is_some o) table
             → counts.blocks ≡ found.owners.count → IsTreeWith g boot image counts
@@ -274,7 +274,7 @@ module _ (g : Geometry) (boot : ℕ) (image : Image) where
           made = made;
           are = record {
             files = files_is ∙ sym (files_are_counted g home table long are);
-            blocks = blocks_is ∙ kept.count once
+            blocks = blocks_is ∙ is_preserved.count once
                 ∙ sym (used_are g home (tree_of g home) (holds_of g home (tree_of g home) stands));
           };
         }

@@ -11,7 +11,7 @@ use Rattle.layout.specs.Geometry.{bitmap_blocks, inode_bitmap_at}
 use Rattle.layout.specs.Homes.{homes_of}
 use Rattle.layout.specs.Owners.{IsMarked, is_marked_inode, is_used, owned}
 use Rattle.layout.specs.Parts.{Parts, parts_of, table_of}
-use Rattle.image_read.specs.Tallies.Tally.{IsOwned, Owned}
+use Rattle.image_read.specs.ImageCounts.Tally.{IsOwned, Owned}
 use Rattle.image_read.proofs.LawsLemmas.Marks.{bits_of_marked, marked_by}
 use Rattle.image_read.specs.Parts.Marks.{AreMarked, is_inode_mark}
 use Rattle.image_check.proofs.Homes.{bit_same}
@@ -25,11 +25,11 @@ used_is : (o : Option Inode) → is_used (Ok o) ≡ is_some o
 used_is (Some inode) = refl
 used_is None = refl
 
-module _ (g : Geometry) (image : Image) (table : List (Option Inode)) (kept : Owned)
+module _ (g : Geometry) (image : Image) (table : List (Option Inode)) (is_preserved : Owned)
     (long : length table ≡ g.inodes)
     (are : (number : ℕ) → number < g.inodes
     → table_of g (homes_of g.blocks image) number ≡ Ok (get_or table number None))
-    (is : IsOwned (owned g (parts_of g (homes_of g.blocks image))) kept) (size : length kept.has ≡ g.blocks) where
+    (is : IsOwned (owned g (parts_of g (homes_of g.blocks image))) is_preserved) (size : length is_preserved.has ≡ g.blocks) where
   abbrev parts : Parts
   parts = parts_of g (homes_of g.blocks image)
 
@@ -47,26 +47,26 @@ module _ (g : Geometry) (image : Image) (table : List (Option Inode)) (kept : Ow
             (le-leb g.inodes number more)
       ]
 
-  blocks_room : FIRST_HOME_BLOCK + bitmap_blocks g.blocks ≤ g.blocks
-  blocks_room = let room = g.lawful.1.3 in omega (arith, room)
+  space_for_blocks : FIRST_HOME_BLOCK + bitmap_blocks g.blocks ≤ g.blocks
+  space_for_blocks = let has_space = g.lawful.1.3 in omega (arith, has_space)
 
-  inodes_room : inode_bitmap_at g.blocks + bitmap_blocks g.inodes ≤ g.blocks
-  inodes_room = let room = g.lawful.1.3 in omega (arith, room)
+  space_for_inodes : inode_bitmap_at g.blocks + bitmap_blocks g.inodes ≤ g.blocks
+  space_for_inodes = let has_space = g.lawful.1.3 in omega (arith, has_space)
 
-  pub is_marked : kept.shared ≡ false → AreMarked g image kept table → IsMarked g parts
+  pub is_marked : is_preserved.shared ≡ false → AreMarked g image is_preserved table → IsMarked g parts
   is_marked once marked =
-      marked_by g parts kept is size once
-      (λ number less. bit_same g image FIRST_HOME_BLOCK (bitmap_blocks g.blocks) number less (omega arith) blocks_room
+      marked_by g parts is_preserved is size once
+      (λ number less. bit_same g image FIRST_HOME_BLOCK (bitmap_blocks g.blocks) number less (omega arith) space_for_blocks
       ∙ marked.blocks number less)
       (λ number less. bit_same g image (inode_bitmap_at g.blocks) (bitmap_blocks g.inodes) number less (omega arith)
-      inodes_room ∙ marked.inodes number less ∙ mark_is number)
+      space_for_inodes ∙ marked.inodes number less ∙ mark_is number)
 
-  pub are_marked : IsMarked g parts → AreMarked g image kept table
+  pub are_marked : IsMarked g parts → AreMarked g image is_preserved table
   are_marked marked = record {
     blocks = λ number less.
-        sym (bit_same g image FIRST_HOME_BLOCK (bitmap_blocks g.blocks) number less (omega arith) blocks_room)
-        ∙ bits_of_marked g parts kept is size marked number less;
+        sym (bit_same g image FIRST_HOME_BLOCK (bitmap_blocks g.blocks) number less (omega arith) space_for_blocks)
+        ∙ bits_of_marked g parts is_preserved is size marked number less;
     inodes = λ number less.
-        sym (bit_same g image (inode_bitmap_at g.blocks) (bitmap_blocks g.inodes) number less (omega arith) inodes_room)
+        sym (bit_same g image (inode_bitmap_at g.blocks) (bitmap_blocks g.inodes) number less (omega arith) space_for_inodes)
         ∙ marked.inodes_marked number less ∙ sym (mark_is number);
   }

@@ -15,9 +15,9 @@ use Rattle.layout.proofs.OneGeometry.{of_one_block}
 use Rattle.circ.specs.declared.log.recovery.LogFault.{LogFault}
 use Rattle.circ.specs.declared.log.recovery.LogFault.TheVariants as log
 use Rattle.circ.specs.Log.Overlay.{HasHomes, IsInRange, logged_in, over}
-use Rattle.circ.specs.Log.Recovery.{CountsFault, HasOnlyRead, IsLog, IsUnspoiled, image_of}
+use Rattle.circ.specs.Log.Recovery.{CountsFault, HasOnlyRead, IsLog, IsCertain, image_of}
 use Rattle.circ.proofs.LogLemmas.OnlyRead.{image_then}
-use Rattle.image_read.specs.Overlays.LaidOver.{laid_over}
+use Rattle.image_read.specs.LoggedImage.WithOverlay.{with_overlay}
 use Rattle.store_promise.specs.declared.fault.OpenFault.{OpenFault}
 use Rattle.store_promise.specs.declared.fault.OpenFault.TheVariants as opening
 use Rattle.store_promise.specs.Openings.{IsRefusedFor, IsShownBy}
@@ -28,7 +28,7 @@ use Rattle.image_read.specs.declared.parts.fault.PartFault.TheVariants as part
 use Rattle.image_read.specs.Parts.Table.{CountsPart}
 use Rattle.image_check.specs.declared.fault.CheckFault.{CheckFault}
 use Rattle.image_check.specs.declared.fault.CheckFault.TheVariants as fault
-use Rattle.image_check.specs.declared.judging.Counts.{Counts}
+use Rattle.image_check.specs.declared.judgement.Counts.{Counts}
 use Rattle.image_check.specs.Checked.{CountsCheck, IsChecked, IsGoodWith, IsNotGood}
 use Rattle.image_check.specs.Refused.{IsRefusal, of_log, of_open, of_part}
 use Rattle.image_check.specs.Searched.{IsNoTree, IsSearched, IsTreeWith}
@@ -179,28 +179,28 @@ module _ (size : ℕ) (image : Image) where
     checked_by (Err (fault.Tree why)) is = not_good is
 
     pub is_checked : (result : Result Counts CheckFault) (logged : List (BlockNo × Content)) → logged ≡ logged_in image
-        → IsSearched found.geometry found.boot (laid_over logged image) result → IsChecked size image result
+        → IsSearched found.geometry found.boot (with_overlay logged image) result → IsChecked size image result
     is_checked result logged same is =
         checked_by result
-        (subst (λ l. IsSearched found.geometry found.boot (laid_over l image) result) same is)
+        (subst (λ l. IsSearched found.geometry found.boot (with_overlay l image) result) same is)
 
-pub refused_first : (kept : Type 0) (cause : OpenFault) (before later : Device) → IsRefusedFor kept cause before later
-    → kept → IsUnspoiled before → IsRefusal (IsNotGood before.size (image_of before)) (of_open cause)
-refused_first kept opening.Magic before later refused keeps clean =
-    shown before.size (image_of before) opening.Magic (refused.1 keeps clean)
-refused_first kept opening.Version before later refused keeps clean =
-    shown before.size (image_of before) opening.Version (refused.1 keeps clean)
-refused_first kept opening.Range before later refused keeps clean =
-    shown before.size (image_of before) opening.Range (refused.1 keeps clean)
-refused_first kept opening.Log before later refused keeps clean =
-    shown before.size (image_of before) opening.Log (refused.1 keeps clean)
-refused_first kept opening.Device before later refused keeps clean = tt
-refused_first kept opening.NoMemory before later refused keeps clean = tt
+pub refused_first : (is_preserved : Type 0) (cause : OpenFault) (before later : Device) → IsRefusedFor is_preserved cause before later
+    → is_preserved → IsCertain before → IsRefusal (IsNotGood before.size (image_of before)) (of_open cause)
+refused_first is_preserved opening.Magic before later refused preserves clean =
+    shown before.size (image_of before) opening.Magic (refused.1 preserves clean)
+refused_first is_preserved opening.Version before later refused preserves clean =
+    shown before.size (image_of before) opening.Version (refused.1 preserves clean)
+refused_first is_preserved opening.Range before later refused preserves clean =
+    shown before.size (image_of before) opening.Range (refused.1 preserves clean)
+refused_first is_preserved opening.Log before later refused preserves clean =
+    shown before.size (image_of before) opening.Log (refused.1 preserves clean)
+refused_first is_preserved opening.Device before later refused preserves clean = tt
+refused_first is_preserved opening.NoMemory before later refused preserves clean = tt
 
 -- ---- the search
 
 -- another fact is said in its place
-pub said_then : {said told : Type 0} (cause : CheckFault) → (said → told) → IsRefusal said cause → IsRefusal told cause
+pub said_then : {said implied : Type 0} (cause : CheckFault) → (said → implied) → IsRefusal said cause → IsRefusal implied cause
 said_then fault.Magic so is = so is
 said_then fault.Version so is = so is
 said_then fault.Range so is = so is

@@ -7,7 +7,7 @@ use Rattle.nfs_spec.specs.Model.Tree.{Tree, used}
 use Rattle.store_promise.specs.GoodImage.{IsGoodImage}
 use Rattle.image_check.specs.declared.fault.CheckFault.{CheckFault}
 use Rattle.image_check.specs.declared.fault.CheckFault.TheVariants as fault
-use Rattle.image_check.specs.declared.judging.Counts.{Counts}
+use Rattle.image_check.specs.declared.judgement.Counts.{Counts}
 
 -- what a tree counts to: its files, and the data blocks that they use
 pub record AreCounts (tree : Tree) (counts : Counts) : Type 0 where

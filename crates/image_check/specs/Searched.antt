@@ -19,7 +19,7 @@ use Rattle.image_check.specs.Checked.{AreCounts}
 use Rattle.image_check.specs.declared.fault.CheckFault.{CheckFault}
 use Rattle.image_check.specs.declared.fault.CheckFault.TheVariants as fault
 use Rattle.image_check.specs.declared.fault.Unlinked.{Unlinked}
-use Rattle.image_check.specs.declared.judging.Counts.{Counts}
+use Rattle.image_check.specs.declared.judgement.Counts.{Counts}
 
 -- so many blocks
 abbrev pub AreBlocksOf : ℕ → Image → Type 0
@@ -55,7 +55,7 @@ pub record IsRead (g : Geometry) (image : Image) (table : List (Option Inode)) :
 
 -- the files of a table make a tree, by what was found in them
 pub record IsTreeBy (boot : ℕ) (table : List (Option Inode)) (found : Found) : Type 0 where
-  pub tidy : found.untidy ≡ None
+  pub is_clean : found.unclean ≡ None
   pub made : AreMadeBy boot table
   pub linked : AreLinked table found.links
 

@@ -3,7 +3,7 @@ ghost use Rattle.std.specs.Prelude.{◌≡◌, ◌≤◌, IfErr, IfOk};
 ghost use Rattle.base.specs.declared.TheConstants.{FIRST_HOME_BLOCK, SUPER_BLOCK};
 ghost use Rattle.layout.specs.SuperForm.{IsSuper};
 ghost use Rattle.circ.specs.Log.Overlay.{HasHomes, IsInRange, logged_in};
-ghost use Rattle.circ.specs.Log.Recovery.{HasOnlyRead, IsUnspoiled, image_of};
+ghost use Rattle.circ.specs.Log.Recovery.{HasOnlyRead, IsCertain, image_of};
 ghost use Rattle.image_check.specs.Checked.{CountsCheck, IsNotGood};
 ghost use Rattle.image_check.specs.Refused.{IsRefusal, of_log, of_open};
 
@@ -23,9 +23,9 @@ pub(crate) fn read_first<D: CrashDisk>(alloc: Global, disk: &mut D) -> Result<Su
     ensures failure { CountsCheck (D.device disk.old) (D.device disk.new) result }
     ensures model { D.keeps_model disk.new → D.keeps_model disk.old }
     ensures blocks { IfOk result (λ found. found.geometry.blocks ≡ (D.device disk.old).size) }
-    ensures found { D.keeps_model disk.new → IsUnspoiled (D.device disk.old)
+    ensures found { D.keeps_model disk.new → IsCertain (D.device disk.old)
         → IfOk result (IsSuper (image_of (D.device disk.old) SUPER_BLOCK)) }
-    ensures refused { D.keeps_model disk.new → IsUnspoiled (D.device disk.old) → IfErr result
+    ensures refused { D.keeps_model disk.new → IsCertain (D.device disk.old) → IfErr result
         (IsRefusal (IsNotGood (D.device disk.old).size (image_of (D.device disk.old)))) }
 {
     let Ok(mut block) = Block::zeros(alloc) else {
@@ -43,13 +43,13 @@ pub(crate) fn read_overlay<D: CrashDisk>(alloc: Global, disk: &mut D) -> Result<
     ensures reads { HasOnlyRead (D.device disk.old) (D.device disk.new) }
     ensures failure { CountsCheck (D.device disk.old) (D.device disk.new) result }
     ensures model { D.keeps_model disk.new → D.keeps_model disk.old }
-    ensures log { D.keeps_model disk.new → IsUnspoiled (D.device disk.old)
+    ensures log { D.keeps_model disk.new → IsCertain (D.device disk.old)
         → IfOk result (λ overlay. overlay ≡ logged_in (image_of (D.device disk.old))) }
-    ensures range { D.keeps_model disk.new → IsUnspoiled (D.device disk.old)
+    ensures range { D.keeps_model disk.new → IsCertain (D.device disk.old)
         → IfOk result (λ _. IsInRange (image_of (D.device disk.old))) }
-    ensures homes { D.keeps_model disk.new → IsUnspoiled (D.device disk.old)
+    ensures homes { D.keeps_model disk.new → IsCertain (D.device disk.old)
         → IfOk result (λ _. HasHomes (D.device disk.old).size (image_of (D.device disk.old))) }
-    ensures refused { D.keeps_model disk.new → IsUnspoiled (D.device disk.old) → IfErr result
+    ensures refused { D.keeps_model disk.new → IsCertain (D.device disk.old) → IfErr result
         (IsRefusal (IsNotGood (D.device disk.old).size (image_of (D.device disk.old)))) }
 {
     match read_log(alloc, disk) {

@@ -3,10 +3,10 @@
 
 mod fault;
 mod first;
-mod judging;
+mod judgement;
 mod passes;
 
 pub use fault::{CheckFault, Unlinked};
 pub use image_contents::Progress;
-pub use judging::Counts;
-pub use passes::{check, check_telling};
+pub use judgement::Counts;
+pub use passes::{check, check_with_progress};

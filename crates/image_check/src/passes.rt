@@ -2,8 +2,8 @@
 ghost use Rattle.std.specs.Prelude.{◌≡◌, ◌≤◌, length};
 ghost use Rattle.base.specs.declared.TheConstants.{SUPER_BLOCK};
 ghost use Rattle.layout.specs.SuperForm.{IsSuper};
-ghost use Rattle.circ.specs.Log.Recovery.{HasOnlyRead, IsUnspoiled, image_of};
-ghost use Rattle.image_read.specs.Overlays.LaidOver.{laid_over};
+ghost use Rattle.circ.specs.Log.Recovery.{HasOnlyRead, IsCertain, image_of};
+ghost use Rattle.image_read.specs.LoggedImage.WithOverlay.{with_overlay};
 ghost use Rattle.image_read.specs.Files.Content.{content_on};
 ghost use Rattle.image_contents.specs.Bodies.Bodies.{FitsFound, IsFound};
 ghost use Rattle.image_check.specs.Checked.{CountsCheck, IsChecked};
@@ -12,9 +12,9 @@ ghost use Rattle.image_check.specs.Searched.{AreBlocksOf, IsRead, IsSearched};
 
 use crate::CheckFault;
 use crate::first::{read_first, read_overlay};
-use crate::judging::{Counts, judge};
+use crate::judgement::{Counts, judge};
 use disk::CrashDisk;
-use image_contents::{Found, Progress, Untold, look_at_files};
+use image_contents::{Found, Progress, Untold, scan_all_files};
 use image_read::{Overlay, PartFault, are_marked, read_table};
 use layout::{Inode, Super};
 use std::alloc::Global;
@@ -28,15 +28,15 @@ pub fn check<D: CrashDisk>(alloc: Global, disk: &mut D) -> Result<Counts, CheckF
     ensures reads { HasOnlyRead (D.device disk.old) (D.device disk.new) }
     ensures failure { CountsCheck (D.device disk.old) (D.device disk.new) result }
     ensures model { D.keeps_model disk.new → D.keeps_model disk.old }
-    ensures checked { D.keeps_model disk.new → IsUnspoiled (D.device disk.old)
+    ensures checked { D.keeps_model disk.new → IsCertain (D.device disk.old)
         → IsChecked (D.device disk.old).size (image_of (D.device disk.old)) result }
 {
-    check_telling(alloc, disk, &mut Untold)
+    check_with_progress(alloc, disk, &mut Untold)
 }
 
 /// The same, by which `progress` is told how many inodes were gone through.
 #[tactic(auto, using(circ::proofs::LogLemmas::OnlyRead::reads_then))]
-pub fn check_telling<D: CrashDisk, P: Progress>(
+pub fn check_with_progress<D: CrashDisk, P: Progress>(
     alloc: Global,
     disk: &mut D,
     progress: &mut P,
@@ -44,7 +44,7 @@ pub fn check_telling<D: CrashDisk, P: Progress>(
     ensures reads { HasOnlyRead (D.device disk.old) (D.device disk.new) }
     ensures failure { CountsCheck (D.device disk.old) (D.device disk.new) result }
     ensures model { D.keeps_model disk.new → D.keeps_model disk.old }
-    ensures checked { D.keeps_model disk.new → IsUnspoiled (D.device disk.old)
+    ensures checked { D.keeps_model disk.new → IsCertain (D.device disk.old)
         → IsChecked (D.device disk.old).size (image_of (D.device disk.old)) result }
 {
     match read_first(alloc, disk) {
@@ -65,7 +65,7 @@ fn check_log<D: CrashDisk, P: Progress>(
     ensures reads { HasOnlyRead (D.device disk.old) (D.device disk.new) }
     ensures failure { CountsCheck (D.device disk.old) (D.device disk.new) result }
     ensures model { D.keeps_model disk.new → D.keeps_model disk.old }
-    ensures checked { D.keeps_model disk.new → IsUnspoiled (D.device disk.old)
+    ensures checked { D.keeps_model disk.new → IsCertain (D.device disk.old)
         → IsSuper (image_of (D.device disk.old) SUPER_BLOCK) found.now
         → IsChecked (D.device disk.old).size (image_of (D.device disk.old)) result }
 {
@@ -88,9 +88,9 @@ fn search<D: CrashDisk, P: Progress>(
     ensures reads { HasOnlyRead (D.device disk.old) (D.device disk.new) }
     ensures failure { CountsCheck (D.device disk.old) (D.device disk.new) result }
     ensures model { D.keeps_model disk.new → D.keeps_model disk.old }
-    ensures searched { D.keeps_model disk.new → IsUnspoiled (D.device disk.old)
-        → AreBlocksOf found.now.geometry.blocks (laid_over overlay.now (image_of (D.device disk.old)))
-        → IsSearched found.now.geometry found.now.boot (laid_over overlay.now (image_of (D.device disk.old))) result }
+    ensures searched { D.keeps_model disk.new → IsCertain (D.device disk.old)
+        → AreBlocksOf found.now.geometry.blocks (with_overlay overlay.now (image_of (D.device disk.old)))
+        → IsSearched found.now.geometry found.now.boot (with_overlay overlay.now (image_of (D.device disk.old))) result }
 {
     match read_table(alloc, disk, overlay, &found.geometry) {
         Ok(table) => search_files(alloc, disk, overlay, found, &table, progress),
@@ -113,11 +113,11 @@ fn search_files<D: CrashDisk, P: Progress>(
     ensures reads { HasOnlyRead (D.device disk.old) (D.device disk.new) }
     ensures failure { CountsCheck (D.device disk.old) (D.device disk.new) result }
     ensures model { D.keeps_model disk.new → D.keeps_model disk.old }
-    ensures searched { D.keeps_model disk.new → IsUnspoiled (D.device disk.old)
-        → IsRead found.now.geometry (laid_over overlay.now (image_of (D.device disk.old))) table.now
-        → IsSearched found.now.geometry found.now.boot (laid_over overlay.now (image_of (D.device disk.old))) result }
+    ensures searched { D.keeps_model disk.new → IsCertain (D.device disk.old)
+        → IsRead found.now.geometry (with_overlay overlay.now (image_of (D.device disk.old))) table.now
+        → IsSearched found.now.geometry found.now.boot (with_overlay overlay.now (image_of (D.device disk.old))) result }
 {
-    match look_at_files(alloc, disk, overlay, &found.geometry, table, progress) {
+    match scan_all_files(alloc, disk, overlay, &found.geometry, table, progress) {
         Ok(files) => search_marks(alloc, disk, overlay, found, table, &files),
         Err(cause) => Err(of_part(cause)),
     }
@@ -139,11 +139,11 @@ fn search_marks<D: CrashDisk>(
     ensures reads { HasOnlyRead (D.device disk.old) (D.device disk.new) }
     ensures failure { CountsCheck (D.device disk.old) (D.device disk.new) result }
     ensures model { D.keeps_model disk.new → D.keeps_model disk.old }
-    ensures searched { D.keeps_model disk.new → IsUnspoiled (D.device disk.old)
-        → IsRead found.now.geometry (laid_over overlay.now (image_of (D.device disk.old))) table.now
+    ensures searched { D.keeps_model disk.new → IsCertain (D.device disk.old)
+        → IsRead found.now.geometry (with_overlay overlay.now (image_of (D.device disk.old))) table.now
         → IsFound found.now.geometry (content_on found.now.geometry overlay.now (D.device disk.old)) table.now
         found.now.geometry.inodes files.now
-        → IsSearched found.now.geometry found.now.boot (laid_over overlay.now (image_of (D.device disk.old))) result }
+        → IsSearched found.now.geometry found.now.boot (with_overlay overlay.now (image_of (D.device disk.old))) result }
 {
     if files.owners.is_shared() {
         return Err(CheckFault::Shared);

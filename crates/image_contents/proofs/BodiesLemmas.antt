@@ -1,6 +1,6 @@
 pub mod AllMet
 pub mod BelowBytes
 pub mod Finding
-pub mod Looked
-pub mod NearSlots
+pub mod FileScans
+pub mod SlotsBeforeDouble
 pub mod NoDouble

@@ -5,6 +5,6 @@ mod found;
 mod inner;
 mod progress;
 
-pub use bodies::look_at_files;
+pub use bodies::scan_all_files;
 pub use found::Found;
 pub use progress::{Progress, Untold};

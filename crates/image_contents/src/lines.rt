@@ -2,10 +2,10 @@
 
 mod line;
 mod lines;
-mod printing;
-mod showing;
+mod print;
+mod shown_files;
 
 pub use line::Line;
 pub use lines::read_lines;
-pub use printing::print_lines;
-pub use showing::show;
+pub use print::print_lines;
+pub use shown_files::show;

@@ -4,7 +4,7 @@ pub mod Named
 pub mod NamedInImage
 pub mod Nodes
 pub mod Reached
-pub mod Room
+pub mod OwnedFit
 pub mod SoundKinds
 pub mod Whole
 pub mod WholeBack

@@ -1,5 +1,5 @@
-mod OverlaysLemmas
-pub mod TalliesLemmas
+mod LoggedImageLemmas
+pub mod ImageCountsLemmas
 pub mod PartsLemmas
 pub mod FilesLemmas
 pub mod CountsLemmas

@@ -1,3 +1,3 @@
 pub mod Bits
-pub mod LaidThen
+pub mod OverlayThen
 pub mod Pushed

@@ -1,3 +1,3 @@
 pub mod Content
-pub mod Far
+pub mod RowNumbers
 pub mod Slots

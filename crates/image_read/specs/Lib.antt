@@ -1,5 +1,5 @@
-pub mod Overlays
-pub mod Tallies
+pub mod LoggedImage
+pub mod ImageCounts
 pub mod Parts
 pub mod Files
 pub mod Counts

@@ -3,9 +3,9 @@
 
 mod blocks;
 mod links;
-mod names;
+mod name_counts;
 mod reached;
 
 pub use blocks::meet_blocks;
 pub use links::{Links, are_linked};
-pub use names::count_names;
+pub use name_counts::count_names;

@@ -17,32 +17,32 @@ use Rattle.layout.specs.Objects.IsObject.{inode}
 use Rattle.layout.specs.Parts.{content_in}
 use Rattle.layout.specs.Places.{is_data}
 use Rattle.inode.specs.declared.snap.Snap.{Snap}
-use Rattle.inode.specs.declared.stop.Stop.{Stop}
-use Rattle.inode.specs.declared.stop.Stop.TheVariants as stop
-use Rattle.inode.specs.Over.{HasInode, IsOver, IsPause, MayStop, are_far_placed}
+use Rattle.inode.specs.declared.suspend.Suspend.{Suspend}
+use Rattle.inode.specs.declared.suspend.Suspend.TheVariants as suspend
+use Rattle.inode.specs.Over.{HasInode, IsOver, IsResumable, MaySuspend, are_pointers_placed}
 use Rattle.inode.specs.Read.{IsAskedInode, NoneStand}
 use Rattle.inode.specs.Shown.{IsInodeOf, IsShown, body_in}
 use Rattle.inode.specs.Snap.{IsNew}
 use Rattle.inode.proofs.BodyThere.{has_body}
-use Rattle.inode.proofs.FarThere.{far_pass}
+use Rattle.inode.proofs.IndirectThere.{indirect_pass}
 use Rattle.inode.proofs.InodeThere.{data_of, is_of_kind, is_read, is_sound, long}
 use Rattle.inode.proofs.UsedBlocks.{counted}
 
 -- ---- why a reading stops
 
-pub may_stop : (snap : Snap) (number : ℕ) (why : Stop) → number < snap.geometry.inodes → IsNew snap why
-    → IsAskedInode snap.geometry number why → MayStop snap why
-may_stop snap number (stop.Need addr mode) less new asked = (new, inode number less asked.block asked.offset asked.len)
-may_stop snap number (stop.Claim block) less new asked = absurd asked
-may_stop snap number stop.Io less new asked = tt
-may_stop snap number stop.NoMemory less new asked = tt
+pub may_suspend : (snap : Snap) (number : ℕ) (why : Suspend) → number < snap.geometry.inodes → IsNew snap why
+    → IsAskedInode snap.geometry number why → MaySuspend snap why
+may_suspend snap number (suspend.Need addr mode) less new asked = (new, inode number less asked.block asked.offset asked.len)
+may_suspend snap number (suspend.Claim block) less new asked = absurd asked
+may_suspend snap number suspend.Io less new asked = tt
+may_suspend snap number suspend.NoMemory less new asked = tt
 
-pub pauses : (snap : Snap) (why : Stop) (blocks : Image) (tree : Tree) → NoneStand snap why
-    → IsOver snap blocks tree → IsPause why
-pauses snap (stop.Need addr mode) blocks tree none over = tt
-pauses snap (stop.Claim block) blocks tree none over = tt
-pauses snap stop.Io blocks tree none over = none blocks tree over.holds over.saw
-pauses snap stop.NoMemory blocks tree none over = tt
+pub resumes : (snap : Snap) (why : Suspend) (blocks : Image) (tree : Tree) → NoneStand snap why
+    → IsOver snap blocks tree → IsResumable why
+resumes snap (suspend.Need addr mode) blocks tree none over = tt
+resumes snap (suspend.Claim block) blocks tree none over = tt
+resumes snap suspend.Io blocks tree none over = none blocks tree over.holds over.saw
+resumes snap suspend.NoMemory blocks tree none over = tt
 
 -- ---- the file of a number
 
@@ -92,7 +92,7 @@ some_used content indirect mapped bytes numbers some is are count =
 pub not_placed : (g : Geometry) (blocks : Image) (indirect : ℕ) (bytes : List ℕ) → nat_eq indirect 0 ≡ false
     → bytes ≡ content_in g blocks indirect
     → list_all (is_data_block_or_none g) (numbers_at INDIRECT_INDEXES 0 bytes) ≡ false
-    → are_far_placed g blocks indirect → ⊥
+    → are_pointers_placed g blocks indirect → ⊥
 not_placed g blocks indirect bytes some is refused placed =
     let clash : true ≡ false =
     sym (placed some)
@@ -108,9 +108,9 @@ module _ (snap : Snap) (blocks : Image) (tree : Tree) (number : ℕ) (one : Inod
   abbrev g : Geometry
   g = snap.geometry
 
-  pub far_placed : are_far_placed g blocks one.indirect
-  far_placed some =
-      far_pass g (content_in g blocks) one one.kind
+  pub indirect_part_placed : are_pointers_placed g blocks one.indirect
+  indirect_part_placed some =
+      indirect_pass g (content_in g blocks) one one.kind
       (is_sound g blocks tree number one has.over.holds has.less has.there)
       (is_of_kind g blocks tree number one has.over.holds has.less has.there) some
 

@@ -39,7 +39,7 @@ module _ (g : Geometry) (blocks : Image) (tree : Tree) (n : ℕ) (inode : Inode)
   whole = g.lawful.1.2
 
   on_disk : inode_block g n < g.blocks
-  on_disk = let room = g.lawful.1.3 in omega (arith, room, less, whole)
+  on_disk = let has_space = g.lawful.1.3 in omega (arith, has_space, less, whole)
 
   bytes_there : AreBytes (take INODE_BYTES (drop (inode_offset n) (blocks (inode_block g n))))
   bytes_there =

@@ -2,13 +2,13 @@
 use Rattle.std.proofs.Common.{◌≡◌, ◌∙◌, ◌+◌, ◌*◌, ◌/◌, ◌%◌, ◌<◌, ◌⊎◌, inl, inr, refl, sym, ap, subst, ℕ, Bool, true, false}
 use Rattle.std.proofs.Common.{◌||◌, List, [], ◌∷◌, ◌++◌, length, get_or, set, take, nat_eq, arith, None, map, Result, Ok, Err, OnOk}
 use Rattle.std.specs.List.{list_any}
+use Rattle.std.proofs.lemmas.Nat.{mod_below}
 use Rattle.std.proofs.lemmas.Bool.{cases_eq, eq-eqb, eqb-true}
-use Rattle.std.proofs.lemmas.List.{get_or-map, map-set, get_or_push, get_or-set_other, get_or-set_same, get_or-take, length-take-le, length_push, get_or_default}
+use Rattle.std.proofs.lemmas.List.{get_or-map, length-map, map-set, get_or_push, get_or-set_other, get_or-set_same, get_or-take, length-set, length-take-le, length_push, get_or_default}
 use Rattle.std.proofs.lemmas.List.Folds.{Any-from_list_any, list_any-append, list_any_at, list_any_more}
 use Rattle.base.specs.declared.TheConstants.{INODE_BYTES}
 use Rattle.objects.specs.declared.addr.Addr.{Addr}
 use Rattle.objects.specs.Object.{ObjectBytes}
-use Rattle.inode.specs.declared.index.TheConstants.{BUCKETS}
 use Rattle.inode.specs.Indexed.{AreKnown, IsIndexed, under, is_under, key_of}
 use Rattle.inode.specs.Snap.{is_seen, same_addr}
 use Rattle.inode.proofs.AllTests.{all_three}
@@ -16,8 +16,8 @@ use Rattle.inode.proofs.AllTests.{all_three}
 -- ---- a position is noted
 
 -- the positions with one more under a key
-abbrev pub noted : ℕ → ℕ → List (List ℕ) → List (List ℕ)
-noted position key positions = set positions (key % BUCKETS) (under key positions ++ position ∷ [])
+abbrev pub tracked : ℕ → ℕ → List (List ℕ) → List (List ℕ)
+tracked position key positions = set positions (key % length positions) (under key positions ++ position ∷ [])
 
 in_last : (position : ℕ) (xs : List ℕ) → list_any (nat_eq position) (xs ++ position ∷ []) ≡ true
 in_last position xs =
@@ -27,38 +27,56 @@ in_last position xs =
 kept : (p : ℕ → Bool) (xs : List ℕ) (y : ℕ) → list_any p xs ≡ true → list_any p (xs ++ y ∷ []) ≡ true
 kept p xs y is = list_any-append p xs (y ∷ []) ∙ ap (λ (b : Bool). b || list_any p (y ∷ [])) is
 
-pub there : (position key : ℕ) (positions : List (List ℕ)) → key % BUCKETS < length positions
-    → is_under position key (noted position key positions) ≡ true
+-- there are as many buckets as before
+same_bucket : (position key other : ℕ) (positions : List (List ℕ))
+    → under other (tracked position key positions) ≡ get_or (tracked position key positions) (other % length positions) []
+same_bucket position key other positions =
+    ap (λ (n : ℕ). get_or (tracked position key positions) (other % n) [])
+    (length-set positions (key % length positions) (under key positions ++ position ∷ []))
+
+pub there : (position key : ℕ) (positions : List (List ℕ)) → key % length positions < length positions
+    → is_under position key (tracked position key positions) ≡ true
 there position key positions less =
     ap (λ (xs : List ℕ). list_any (nat_eq position) xs)
-    (get_or-set_same positions (key % BUCKETS) (under key positions ++ position ∷ []) [] less)
+    (same_bucket position key key positions
+    ∙ get_or-set_same positions (key % length positions) (under key positions ++ position ∷ []) [] less)
     ∙ in_last position (under key positions)
 
-pub stays : (position key other at : ℕ) (positions : List (List ℕ)) → key % BUCKETS < length positions
-    → is_under at other positions ≡ true → is_under at other (noted position key positions) ≡ true
-stays position key other at positions less is = by (cases_eq (other % BUCKETS) (key % BUCKETS))
+pub stays : (position key other at : ℕ) (positions : List (List ℕ)) → key % length positions < length positions
+    → is_under at other positions ≡ true → is_under at other (tracked position key positions) ≡ true
+stays position key other at positions less is = by (cases_eq (other % length positions) (key % length positions))
   where
-    by : (other % BUCKETS ≡ key % BUCKETS) ⊎ (other % BUCKETS ≡ key % BUCKETS → ⊥)
-        → is_under at other (noted position key positions) ≡ true
+    by : (other % length positions ≡ key % length positions) ⊎ (other % length positions ≡ key % length positions → ⊥)
+        → is_under at other (tracked position key positions) ≡ true
     by (inl same) =
         ap (λ (xs : List ℕ). list_any (nat_eq at) xs)
-        (ap (λ (n : ℕ). get_or (noted position key positions) n []) same
-        ∙ get_or-set_same positions (key % BUCKETS) (under key positions ++ position ∷ []) [] less)
+        (same_bucket position key other positions ∙ ap (λ (n : ℕ). get_or (tracked position key positions) n []) same
+        ∙ get_or-set_same positions (key % length positions) (under key positions ++ position ∷ []) [] less)
         ∙ kept (nat_eq at) (under key positions) position
         (subst (λ (n : ℕ). list_any (nat_eq at) (get_or positions n []) ≡ true) same is)
     by (inr differs) =
         ap (λ (xs : List ℕ). list_any (nat_eq at) xs)
-        (get_or-set_other positions (key % BUCKETS) (other % BUCKETS) (under key positions ++ position ∷ []) [] differs)
+        (same_bucket position key other positions ∙ get_or-set_other positions (key % length positions) (other % length positions) (under key positions ++ position ∷ []) [] differs)
         ∙ is
 
-pub now_noted : {X : Type 0} (f : X → List ℕ) (bs : List X) (positions : List (List ℕ)) (key position : ℕ) (had now : X)
-    → map f bs ≡ positions → key % BUCKETS < length bs → had ≡ get_or bs (key % BUCKETS) had
-    → f now ≡ f had ++ position ∷ [] → map f (set bs (key % BUCKETS) now) ≡ noted position key positions
-now_noted f bs positions key position had now view less was is =
-    map-set f bs (key % BUCKETS) now
-    ∙ ap (λ (xs : List ℕ). set (map f bs) (key % BUCKETS) xs)
-    (is ∙ ap (λ (xs : List ℕ). xs ++ position ∷ []) (ap f was ∙ sym (get_or-map f bs (key % BUCKETS) had [] less)))
-    ∙ ap (λ (ps : List (List ℕ)). noted position key ps) view
+-- the bucket of a key is one of those that there are
+pub low_bucket : {X : Type 0} (key count : ℕ) (bs : List X) (f : X → List ℕ) (positions : List (List ℕ)) → map f bs ≡ positions
+    → count ≡ length bs → 0 < count → (key % count < length bs) × (key % length positions < length positions)
+low_bucket key count bs f positions view is some = record {
+  0 = subst (λ (n : ℕ). key % count < n) is (mod_below key count some);
+  1 = subst (λ (n : ℕ). key % n < n) (is ∙ sym (length-map bs f) ∙ ap (λ (ps : List (List ℕ)). length ps) view)
+      (mod_below key count some);
+}
+
+pub now_tracked : {X : Type 0} (f : X → List ℕ) (bs : List X) (positions : List (List ℕ)) (key count position : ℕ) (had now : X)
+    → map f bs ≡ positions → count ≡ length bs → key % count < length bs → had ≡ get_or bs (key % count) had
+    → f now ≡ f had ++ position ∷ [] → map f (set bs (key % count) now) ≡ tracked position key positions
+now_tracked f bs positions key count position had now view of less was is =
+    map-set f bs (key % count) now
+    ∙ ap (λ (xs : List ℕ). set (map f bs) (key % count) xs)
+    (is ∙ ap (λ (xs : List ℕ). xs ++ position ∷ []) (ap f was ∙ sym (get_or-map f bs (key % count) had [] less)))
+    ∙ ap (λ (n : ℕ). set (map f bs) (key % n) (get_or (map f bs) (key % n) [] ++ position ∷ [])) (of ∙ sym (length-map bs f))
+    ∙ ap (λ (ps : List (List ℕ)). tracked position key ps) view
 
 pub ok_then : {A E P Q : Type 0} (r : Result A E) → (P → Q) → OnOk r P → OnOk r Q
 ok_then (Ok a) f h = f h

@@ -3,7 +3,7 @@ pub mod PointersThere
 pub mod UsedBlocks
 pub mod InodeThere
 pub mod ReadThere
-pub mod FarThere
+pub mod IndirectThere
 pub mod Placed
 pub mod Pieces
 pub mod FileSizes
@@ -12,5 +12,5 @@ pub mod HeldThere
 pub mod Stops
 pub mod Needed
 pub mod KnownPositions
-pub mod HadAlone
-pub mod DraftsLemmas
+pub mod HadExclusive
+pub mod WriteSetsLemmas

@@ -91,34 +91,34 @@ module _ (content : Image) (all_long : (number : ℕ) → length (content number
   pub in_block : (numbers : List ℕ) (index from len : ℕ) → index < length numbers → from + len ≤ BLOCK_BYTES
       → take len (drop (BLOCK_BYTES * index + from) (flat_map (content_of content) numbers))
       ≡ take len (drop from (content_of content (get_or numbers index 0)))
-  in_block [] index from len less room = absurd (omega (arith, less))
-  in_block (number ∷ numbers) zero from len less room =
+  in_block [] index from len less has_space = absurd (omega (arith, less))
+  in_block (number ∷ numbers) zero from len less has_space =
       let all = content_long number in
       let rest = length-drop from (content_of content number) in
       let there : BLOCK_BYTES * 0 + from ≡ from = omega arith in
       ap (λ k. take len (drop k (content_of content number ++ flat_map (content_of content) numbers))) there
       ∙ ap (λ l. take len l) (drop-append-le from (content_of content number)
-      (flat_map (content_of content) numbers) (omega (arith, all, room)))
+      (flat_map (content_of content) numbers) (omega (arith, all, has_space)))
       ∙ take-append-le len (drop from (content_of content number)) (flat_map (content_of content) numbers)
-      (omega (arith, rest, all, room))
-  in_block (number ∷ numbers) (suc index) from len less room =
+      (omega (arith, rest, all, has_space))
+  in_block (number ∷ numbers) (suc index) from len less has_space =
       let all = content_long number in
       let there : BLOCK_BYTES * suc index + from ≡ length (content_of content number) + (BLOCK_BYTES * index + from) =
       omega (arith, all) in
       ap (λ k. take len (drop k (content_of content number ++ flat_map (content_of content) numbers))) there
       ∙ ap (take len) (drop-append-add (content_of content number) (flat_map (content_of content) numbers)
       (BLOCK_BYTES * index + from))
-      ∙ in_block numbers index from len (omega (arith, less)) room
+      ∙ in_block numbers index from len (omega (arith, less)) has_space
 
-  pub at_place : (numbers : List ℕ) (at len : ℕ) → at / BLOCK_BYTES < length numbers
+  pub at_offset_within : (numbers : List ℕ) (at len : ℕ) → at / BLOCK_BYTES < length numbers
       → at % BLOCK_BYTES + len ≤ BLOCK_BYTES
       → take len (drop (at % BLOCK_BYTES) (content_of content (get_or numbers (at / BLOCK_BYTES) 0)))
       ≡ take len (drop at (bytes_of content numbers))
   unfolding bytes_of
-  at_place numbers at len less room =
-      let place : BLOCK_BYTES * (at / BLOCK_BYTES) + at % BLOCK_BYTES ≡ at = omega arith in
-      sym (in_block numbers (at / BLOCK_BYTES) (at % BLOCK_BYTES) len less room)
-      ∙ ap (λ k. take len (drop k (flat_map (content_of content) numbers))) place
+  at_offset_within numbers at len less has_space =
+      let offsets_agree : BLOCK_BYTES * (at / BLOCK_BYTES) + at % BLOCK_BYTES ≡ at = omega arith in
+      sym (in_block numbers (at / BLOCK_BYTES) (at % BLOCK_BYTES) len less has_space)
+      ∙ ap (λ k. take len (drop k (flat_map (content_of content) numbers))) offsets_agree
 
 -- ---- of a file
 
@@ -140,10 +140,10 @@ module _ (snap : Snap) (blocks : Image) (tree : Tree) (file : ℕ) (inode : Inod
       → number ≡ number_at g blocks inode (at / BLOCK_BYTES)
       → take len (drop (at % BLOCK_BYTES) (content_of content number))
       ≡ take len (drop at (all_bytes g blocks inode))
-  next_piece number at len less room is =
+  next_piece number at len less has_space is =
       let count = all-length content inode direct in
       ap (λ n. take len (drop (at % BLOCK_BYTES) (content_of content n))) is
-      ∙ at_place content long_content (numbers_of content inode) at len (omega (arith, count, less)) room
+      ∙ at_offset_within content long_content (numbers_of content inode) at len (omega (arith, count, less)) has_space
 
   first_number : (number : ℕ) → number ≡ number_at g blocks inode 0 → number ≡ get_or (take 1 inode.direct) 0 0
   first_number number is =
@@ -154,7 +154,7 @@ module _ (snap : Snap) (blocks : Image) (tree : Tree) (file : ℕ) (inode : Inod
   first_block number len few is =
       let one = length-take-le 1 inode.direct (let count = direct in omega (arith, count)) in
       ap (λ n. take len (drop 0 (content_of content n))) (first_number number is)
-      ∙ at_place content long_content (take 1 inode.direct) 0 len (omega (arith, one)) (omega (arith, few))
+      ∙ at_offset_within content long_content (take 1 inode.direct) 0 len (omega (arith, one)) (omega (arith, few))
 
   -- ---- sizes
 

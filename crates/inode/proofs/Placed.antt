@@ -19,9 +19,9 @@ use Rattle.layout.proofs.FileNumbers as numbers
 use Rattle.layout.proofs.NumbersIn.{doubled_pass, none_at, none_pass, some_in}
 use Rattle.txn_law.specs.Window.{object_at}
 use Rattle.inode.specs.declared.snap.Snap.{Snap}
-use Rattle.inode.specs.Over.{AreInnerPlaced, HasInode, IsOver, are_far_placed, far_at, number_at}
+use Rattle.inode.specs.Over.{AreInnerPlaced, HasInode, IsOver, are_pointers_placed, pointer_number_at, number_at}
 use Rattle.inode.proofs.AllTests.{all_two, is_less}
-use Rattle.inode.proofs.FarThere.{doubled_passes, inner_pass, numbers_pass}
+use Rattle.inode.proofs.IndirectThere.{doubled_passes, inner_pass, numbers_pass}
 use Rattle.inode.proofs.InodeThere.{is_of_kind, is_sound, maps}
 use Rattle.inode.proofs.ReadThere.{whole_there}
 
@@ -66,36 +66,36 @@ module _ (g : Geometry) (blocks : Image) (inode : Inode) (index : ℕ) (direct :
     pub direct_at : index < DIRECT_INDEXES → get_or inode.direct index 0 ≡ number_at g blocks inode index
     direct_at less = sym (numbers.direct_at content inode direct index less)
 
-    pub far_there : DIRECT_INDEXES ≤ index → index < FIRST_DOUBLE_INDEX
-        → far_at content inode.indirect (index - DIRECT_INDEXES) ≡ number_at g blocks inode index
-    far_there more within = sym (numbers.indirect_at content inode direct index more within)
+    pub indirect_there : DIRECT_INDEXES ≤ index → index < FIRST_DOUBLE_INDEX
+        → pointer_number_at content inode.indirect (index - DIRECT_INDEXES) ≡ number_at g blocks inode index
+    indirect_there more within = sym (numbers.indirect_at content inode direct index more within)
 
     pub inner_there : FIRST_DOUBLE_INDEX ≤ index → index < FILE_INDEXES
-        → far_at content (far_at content inode.double ((index - FIRST_DOUBLE_INDEX) / INDIRECT_INDEXES))
+        → pointer_number_at content (pointer_number_at content inode.double ((index - FIRST_DOUBLE_INDEX) / INDIRECT_INDEXES))
         ((index - FIRST_DOUBLE_INDEX) % INDIRECT_INDEXES) ≡ number_at g blocks inode index
     inner_there more within = sym (numbers.inner_at content inode direct index more within)
 
-pub none_far : (content : Image) (indirect index : ℕ) → nat_eq indirect 0 ≡ true
-    → 0 ≡ far_at content indirect index
-none_far content indirect index none =
+pub none_indirect : (content : Image) (indirect index : ℕ) → nat_eq indirect 0 ≡ true
+    → 0 ≡ pointer_number_at content indirect index
+none_indirect content indirect index none =
     sym (none_at content indirect none index)
 
-pub some_far : (content : Image) (indirect index : ℕ) (bytes : List ℕ) → nat_eq indirect 0 ≡ false
-    → bytes ≡ content indirect → get_or (numbers_at INDIRECT_INDEXES 0 bytes) index 0 ≡ far_at content indirect index
-some_far content indirect index bytes some is =
+pub some_indirect : (content : Image) (indirect index : ℕ) (bytes : List ℕ) → nat_eq indirect 0 ≡ false
+    → bytes ≡ content indirect → get_or (numbers_at INDIRECT_INDEXES 0 bytes) index 0 ≡ pointer_number_at content indirect index
+some_indirect content indirect index bytes some is =
     ap (λ block. get_or (numbers_at INDIRECT_INDEXES 0 block) index 0) is
     ∙ sym (ap (λ l. get_or l index 0) (some_in content indirect some))
 
 -- each inner block is a data block, and so are those that it names
 module _ (g : Geometry) (blocks : Image) (double : ℕ) (are : AreInnerPlaced g blocks double) where
   abbrev inner_at : ℕ → ℕ
-  inner_at inner = far_at (content_in g blocks) double inner
+  inner_at inner = pointer_number_at (content_in g blocks) double inner
 
   pub inner_data : (inner : ℕ) → is_data_block_or_none g (inner_at inner) ≡ true
   inner_data inner = passes_at (is_data_block_or_none g) (numbers_in (content_in g blocks) double) inner refl are.inner
 
-  pub inner_far_placed : (inner : ℕ) → are_far_placed g blocks (inner_at inner)
-  inner_far_placed inner some =
+  pub inner_part_placed : (inner : ℕ) → are_pointers_placed g blocks (inner_at inner)
+  inner_part_placed inner some =
       ap (list_all (is_data_block_or_none g)) (sym (some_in (content_in g blocks) (inner_at inner) some))
       ∙ passes_at (λ one. list_all (is_data_block_or_none g) (numbers_in (content_in g blocks) one))
       (numbers_in (content_in g blocks) double) inner
@@ -133,7 +133,7 @@ module _ (snap : Snap) (blocks : Image) (tree : Tree) (number : ℕ) (inode : In
         (is_of_kind g blocks tree number inode has.over.holds has.less has.there);
   }
 
-  pub double_far_placed : are_far_placed g blocks inode.double
-  double_far_placed some =
+  pub double_part_placed : are_pointers_placed g blocks inode.double
+  double_part_placed some =
       ap (list_all (is_data_block_or_none g)) (sym (some_in (content_in g blocks) inode.double some))
       ∙ inner_placed.inner

@@ -73,13 +73,13 @@ rows_held content (n ∷ pointers) =
     (flat_map (numbers_in content) pointers)) i)
 
 -- where there is a double indirect block it is held, and what its inner blocks hold
-pub double_rows : (content : Image) (double place : ℕ) → nat_eq double 0 ≡ false → INDIRECT_INDEXES ≤ place
-    → 1 + sum_by (row_held content) (take place (numbers_in content double)) ≡ double_held content double
+pub double_rows : (content : Image) (double index_within : ℕ) → nat_eq double 0 ≡ false → INDIRECT_INDEXES ≤ index_within
+    → 1 + sum_by (row_held content) (take index_within (numbers_in content double)) ≡ double_held content double
 unfolding double_held doubled_in
-double_rows content double place some past =
+double_rows content double index_within some past =
     let long = in_length content double in
     ap (λ l. 1 + sum_by (row_held content) l)
-    (take_all place (numbers_in content double) (omega (arith, long, past)))
+    (take_all index_within (numbers_in content double) (omega (arith, long, past)))
     ∙ ap (λ k. 1 + k) (rows_held content (numbers_in content double))
     ∙ joined (count_of (numbers_in content double))
     (count_of (flat_map (numbers_in content) (numbers_in content double)))
@@ -94,18 +94,18 @@ one_row_more : (used more before row after : ℕ) → used ≡ 1 + before → mo
 one_row_more used more before row after was is sum = omega (arith, was, is, sum)
 
 -- with what one inner block more holds
-pub rows_more : (content : Image) (double place used more : ℕ) → place < INDIRECT_INDEXES
-    → used ≡ 1 + sum_by (row_held content) (take place (numbers_in content double))
-    → more ≡ row_held content (get_or (numbers_in content double) place 0)
-    → used + more ≡ 1 + sum_by (row_held content) (take (place + 1) (numbers_in content double))
-rows_more content double place used more less was is =
+pub rows_more : (content : Image) (double index_within used more : ℕ) → index_within < INDIRECT_INDEXES
+    → used ≡ 1 + sum_by (row_held content) (take index_within (numbers_in content double))
+    → more ≡ row_held content (get_or (numbers_in content double) index_within 0)
+    → used + more ≡ 1 + sum_by (row_held content) (take (index_within + 1) (numbers_in content double))
+rows_more content double index_within used more less was is =
     let long = in_length content double in
-    one_row_more used more (sum_by (row_held content) (take place (numbers_in content double)))
-    (row_held content (get_or (numbers_in content double) place 0))
-    (sum_by (row_held content) (take (place + 1) (numbers_in content double))) was is
-    (ap (sum_by (row_held content)) (take_more (numbers_in content double) place 0 (omega (arith, less, long)))
-    ∙ sum_by_push (row_held content) (take place (numbers_in content double))
-    (get_or (numbers_in content double) place 0))
+    one_row_more used more (sum_by (row_held content) (take index_within (numbers_in content double)))
+    (row_held content (get_or (numbers_in content double) index_within 0))
+    (sum_by (row_held content) (take (index_within + 1) (numbers_in content double))) was is
+    (ap (sum_by (row_held content)) (take_more (numbers_in content double) index_within 0 (omega (arith, less, long)))
+    ∙ sum_by_push (row_held content) (take index_within (numbers_in content double))
+    (get_or (numbers_in content double) index_within 0))
 
 pub no_double : (content : Image) (double : ℕ) → nat_eq double 0 ≡ true → 0 ≡ double_held content double
 unfolding double_held
@@ -119,18 +119,18 @@ module _ (g : Geometry) (content : Image) (inode : Inode) (direct : length inode
     all_counted =
         let both = counted_parts content inode in
         let pointers = pointers_counted content inode in
-        let far = row_is content inode.indirect in
+        let indirect_part = row_is content inode.indirect in
         let further = double_is content inode.double in
-        omega (arith, both, pointers, far, further)
+        omega (arith, both, pointers, indirect_part, further)
 
     pub regular_counted : IsMapped g content inode
         → file_cost (mapped_of (numbers_of content inode)) ≡ counted content inode
     regular_counted mapped = regular_held g content inode direct mapped ∙ all_counted
 
     -- without a double indirect block the indirect block alone holds numbers
-    near_counted : nat_eq inode.double 0 ≡ true
+    counted_before_double : nat_eq inode.double 0 ≡ true
         → count_of (pointer_blocks content inode) ≡ cond (is_some inode.indirect) 1 0
-    near_counted none =
+    counted_before_double none =
         let pointers = pointers_counted content inode in
         let inner = none_count content inode.double none in
         let first : ◌≡◌ {A = ℕ} (cond (is_some inode.double) 1 0) 0 = ap (λ b. cond (not b) 1 0) none in
@@ -151,11 +151,11 @@ module _ (g : Geometry) (content : Image) (inode : Inode) (direct : length inode
         first_count (span_of inode) (numbers_of content inode) few parts.0 parts.1 in
         (λ i. sym count i
         + (one_more (nat_lt DIRECT_INDEXES (span_of inode)) (nat_eq inode.indirect 0) right
-        ∙ sym (near_counted none)) i)
+        ∙ sym (counted_before_double none)) i)
         ∙ all_counted
       where
-        one_more : (far none : Bool) → cond far (not none) none ≡ true
-            → ◌≡◌ {A = ℕ} (cond far 1 0) (cond (not none) 1 0)
+        one_more : (indirect_part none : Bool) → cond indirect_part (not none) none ≡ true
+            → ◌≡◌ {A = ℕ} (cond indirect_part 1 0) (cond (not none) 1 0)
         one_more true true e = cc
         one_more true false e = refl
         one_more false true e = refl
@@ -168,7 +168,7 @@ module _ (g : Geometry) (content : Image) (inode : Inode) (direct : length inode
         (list_all (λ number. nat_eq number 0) (drop 1 inode.direct)) spans in
         let one : count_by is_some inode.direct ≡ 1 =
         first_count 1 inode.direct (omega (arith, direct)) parts.0 parts.1 in
-        let far : row_held content inode.indirect ≡ 0 =
+        let indirect_part : row_held content inode.indirect ≡ 0 =
         ap (λ b. cond b 0 (count_of (numbers_at INDIRECT_INDEXES 0 (content inode.indirect)) + 1)) none in
         let further = no_double content inode.double none_double in
-        omega (arith, one, far, further)
+        omega (arith, one, indirect_part, further)

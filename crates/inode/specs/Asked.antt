@@ -6,23 +6,23 @@ use Rattle.layout.specs.declared.inode.Inode.{Inode}
 use Rattle.layout.specs.Fields.{numbers_at}
 use Rattle.objects.specs.Object.{ObjectBytes}
 use Rattle.inode.specs.declared.snap.Snap.{Snap}
-use Rattle.inode.specs.declared.stop.Stop.{Stop}
-use Rattle.inode.specs.declared.stop.Stop.TheVariants as stop
+use Rattle.inode.specs.declared.suspend.Suspend.{Suspend}
+use Rattle.inode.specs.declared.suspend.Suspend.TheVariants as suspend
 use Rattle.inode.specs.Read.{WasRead}
 
 -- a reading stops for an object of which this holds, or for what the layout refuses
-abbrev pub IsStopFor : (Addr → Type 0) → Stop → Type 0
-IsStopFor P (stop.Need addr mode) = P addr
-IsStopFor P (stop.Claim block) = ⊥
-IsStopFor P stop.Io = Unit {0}
-IsStopFor P stop.NoMemory = ⊥
+abbrev pub IsSuspendFor : (Addr → Type 0) → Suspend → Type 0
+IsSuspendFor P (suspend.Need addr mode) = P addr
+IsSuspendFor P (suspend.Claim block) = ⊥
+IsSuspendFor P suspend.Io = Unit {0}
+IsSuspendFor P suspend.NoMemory = ⊥
 
 -- the same of a reading that takes memory: or for want of that
-abbrev pub MayStopFor : (Addr → Type 0) → Stop → Type 0
-MayStopFor P (stop.Need addr mode) = P addr
-MayStopFor P (stop.Claim block) = ⊥
-MayStopFor P stop.Io = Unit {0}
-MayStopFor P stop.NoMemory = Unit {0}
+abbrev pub MaySuspendFor : (Addr → Type 0) → Suspend → Type 0
+MaySuspendFor P (suspend.Need addr mode) = P addr
+MaySuspendFor P (suspend.Claim block) = ⊥
+MaySuspendFor P suspend.Io = Unit {0}
+MaySuspendFor P suspend.NoMemory = Unit {0}
 
 -- the address is that of the whole block of a number
 pub record IsBlockAddr (number : ℕ) (addr : Addr) : Type 0 where
@@ -37,31 +37,31 @@ pub record WasReadBlock (objects : List ObjectBytes) (number : ℕ) (bytes : Lis
   pub read : WasRead objects addr bytes
 
 -- the number at an index of a pointer block as it was read, 0 where there is none
-pub data IsFarNumber (objects : List ObjectBytes) (pointer index number : ℕ) : Type 0 where
-  none : pointer ≡ 0 → number ≡ 0 → IsFarNumber objects pointer index number
+pub data IsPointerNumber (objects : List ObjectBytes) (pointer index number : ℕ) : Type 0 where
+  none : pointer ≡ 0 → number ≡ 0 → IsPointerNumber objects pointer index number
   named : (bytes : List ℕ) → WasReadBlock objects pointer bytes
-      → number ≡ get_or (numbers_at INDIRECT_INDEXES 0 bytes) index 0 → IsFarNumber objects pointer index number
+      → number ≡ get_or (numbers_at INDIRECT_INDEXES 0 bytes) index 0 → IsPointerNumber objects pointer index number
 
 -- the numbers in a pointer block as it was read, zeros where there is none
-pub data AreFarNumbers (objects : List ObjectBytes) (pointer : ℕ) (numbers : List ℕ) : Type 0 where
-  zeros : pointer ≡ 0 → numbers ≡ replicate INDIRECT_INDEXES 0 → AreFarNumbers objects pointer numbers
+pub data ArePointerNumbers (objects : List ObjectBytes) (pointer : ℕ) (numbers : List ℕ) : Type 0 where
+  zeros : pointer ≡ 0 → numbers ≡ replicate INDIRECT_INDEXES 0 → ArePointerNumbers objects pointer numbers
   spelled : (bytes : List ℕ) → WasReadBlock objects pointer bytes → numbers ≡ numbers_at INDIRECT_INDEXES 0 bytes
-      → AreFarNumbers objects pointer numbers
+      → ArePointerNumbers objects pointer numbers
 
 -- the number of the inner block that reaches an index of a file, as the double indirect block was read, 0 where there is
 -- none
 abbrev pub IsInnerFor : List ObjectBytes → Inode → ℕ → ℕ → Type 0
 IsInnerFor objects inode index inner =
-    IsFarNumber objects inode.double ((index - FIRST_DOUBLE_INDEX) / INDIRECT_INDEXES) inner
+    IsPointerNumber objects inode.double ((index - FIRST_DOUBLE_INDEX) / INDIRECT_INDEXES) inner
 
 -- the number at an index of a file: as the inode names it, or its indirect block as it was read, or the inner block
 -- that reaches the index, as it was read
 pub data IsNumberAt (objects : List ObjectBytes) (inode : Inode) (index number : ℕ) : Type 0 where
   direct : index < DIRECT_INDEXES → number ≡ get_or inode.direct index 0 → IsNumberAt objects inode index number
-  far : DIRECT_INDEXES ≤ index → index < FIRST_DOUBLE_INDEX
-      → IsFarNumber objects inode.indirect (index - DIRECT_INDEXES) number → IsNumberAt objects inode index number
+  indirect_part : DIRECT_INDEXES ≤ index → index < FIRST_DOUBLE_INDEX
+      → IsPointerNumber objects inode.indirect (index - DIRECT_INDEXES) number → IsNumberAt objects inode index number
   doubled : FIRST_DOUBLE_INDEX ≤ index → (inner : ℕ) → IsInnerFor objects inode index inner
-      → IsFarNumber objects inner ((index - FIRST_DOUBLE_INDEX) % INDIRECT_INDEXES) number
+      → IsPointerNumber objects inner ((index - FIRST_DOUBLE_INDEX) % INDIRECT_INDEXES) number
       → IsNumberAt objects inode index number
 
 -- the address is that of a pointer block by which the number at an index is found: of the indirect block, or of the
@@ -76,7 +76,7 @@ pub data IsPointerFor (objects : List ObjectBytes) (inode : Inode) (index : ℕ)
 -- the address is that of a double indirect block, or of an inner block that it names, as it was read
 pub data IsOfDouble (objects : List ObjectBytes) (double : ℕ) (addr : Addr) : Type 0 where
   itself : IsBlockAddr double addr → IsOfDouble objects double addr
-  below : (place number : ℕ) → place < INDIRECT_INDEXES → IsFarNumber objects double place number
+  below : (index_within number : ℕ) → index_within < INDIRECT_INDEXES → IsPointerNumber objects double index_within number
       → IsBlockAddr number addr → IsOfDouble objects double addr
 
 -- the address is that of a pointer block of a file

@@ -2,14 +2,13 @@
 use Rattle.std.specs.Prelude.{◌≡◌, ◌+◌, ◌*◌, ◌/◌, ◌%◌, ◌<◌, ℕ, Bool, true, List, [], Option, Some, length, nat_eq}
 use Rattle.std.specs.Prelude.{slice_index_or}
 use Rattle.std.specs.List.{list_any}
-use Rattle.inode.specs.declared.index.TheConstants.{BUCKETS}
 use Rattle.base.specs.declared.TheConstants.{INODE_BYTES}
 use Rattle.objects.specs.declared.addr.Addr.{Addr}
 use Rattle.objects.specs.Object.{ObjectBytes}
 
--- the positions under a key, among them those under others
+-- the positions under a key, among those of other keys of its bucket
 abbrev pub under : ℕ → List (List ℕ) → List ℕ
-under key buckets = slice_index_or buckets (key % BUCKETS) []
+under key buckets = slice_index_or buckets (key % length buckets) []
 
 -- the position is among them
 abbrev pub is_under : ℕ → ℕ → List (List ℕ) → Bool

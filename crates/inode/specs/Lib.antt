@@ -4,4 +4,4 @@ pub mod Read
 pub mod Asked
 pub mod Over
 pub mod Shown
-pub mod Drafts
+pub mod WriteSets

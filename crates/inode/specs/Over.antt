@@ -14,8 +14,8 @@ use Rattle.layout.specs.Parts.{content_in}
 use Rattle.layout.specs.Places.{is_data}
 use Rattle.layout.specs.Holds.{Holds}
 use Rattle.inode.specs.declared.snap.Snap.{Snap}
-use Rattle.inode.specs.declared.stop.Stop.{Stop}
-use Rattle.inode.specs.declared.stop.Stop.TheVariants as stop
+use Rattle.inode.specs.declared.suspend.Suspend.{Suspend}
+use Rattle.inode.specs.declared.suspend.Suspend.TheVariants as suspend
 use Rattle.inode.specs.Read.{Saw}
 use Rattle.inode.specs.Snap.{is_claimed, is_had}
 
@@ -32,24 +32,24 @@ pub record HasInode (snap : Snap) (blocks : Image) (tree : Tree) (number : ℕ) 
 
 -- a plan stops for an object of the image that wasn't asked for yet in this mode, and for a data block that wasn't claimed
 -- yet
-abbrev pub MayStop : Snap → Stop → Type 0
-MayStop snap (stop.Need addr mode) = (is_had addr mode snap.objects.items snap.alone.items ≡ false)
+abbrev pub MaySuspend : Snap → Suspend → Type 0
+MaySuspend snap (suspend.Need addr mode) = (is_had addr mode snap.objects.items snap.exclusives.items ≡ false)
     × IsObject snap.geometry addr
-MayStop snap (stop.Claim block) = (is_claimed block snap.claims.items ≡ false)
+MaySuspend snap (suspend.Claim block) = (is_claimed block snap.claims.items ≡ false)
     × (is_data snap.geometry block.0 ≡ true)
-MayStop snap stop.Io = Unit {0}
-MayStop snap stop.NoMemory = Unit {0}
+MaySuspend snap suspend.Io = Unit {0}
+MaySuspend snap suspend.NoMemory = Unit {0}
 
 -- and not for what the layout refuses
-abbrev pub IsPause : Stop → Type 0
-IsPause (stop.Need addr mode) = Unit {0}
-IsPause (stop.Claim block) = Unit {0}
-IsPause stop.Io = ⊥
-IsPause stop.NoMemory = Unit {0}
+abbrev pub IsResumable : Suspend → Type 0
+IsResumable (suspend.Need addr mode) = Unit {0}
+IsResumable (suspend.Claim block) = Unit {0}
+IsResumable suspend.Io = ⊥
+IsResumable suspend.NoMemory = Unit {0}
 
 -- the number at an index of an indirect block, 0 where there is none
-abbrev pub far_at : Image → ℕ → ℕ → ℕ
-far_at content indirect index = get_or (numbers_in content indirect) index 0
+abbrev pub pointer_number_at : Image → ℕ → ℕ → ℕ
+pointer_number_at content indirect index = get_or (numbers_in content indirect) index 0
 
 -- the number of the block at an index of a file
 abbrev pub number_at : Geometry → Image → Inode → ℕ → ℕ
@@ -60,8 +60,8 @@ abbrev pub all_bytes : Geometry → Image → Inode → List ℕ
 all_bytes g blocks inode = bytes_of (content_in g blocks) (numbers_of (content_in g blocks) inode)
 
 -- a pointer block, if there is one, has the numbers of data blocks alone
-abbrev pub are_far_placed : Geometry → Image → ℕ → Type 0
-are_far_placed g blocks indirect = nat_eq indirect 0 ≡ false
+abbrev pub are_pointers_placed : Geometry → Image → ℕ → Type 0
+are_pointers_placed g blocks indirect = nat_eq indirect 0 ≡ false
     → list_all (is_data_block_or_none g) (numbers_at INDIRECT_INDEXES 0 (content_in g blocks indirect)) ≡ true
 
 -- the inner blocks of a double indirect block are data blocks, and so are those that they name

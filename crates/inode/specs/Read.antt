@@ -12,8 +12,8 @@ use Rattle.layout.specs.Holds.{Holds}
 use Rattle.objects.specs.Object.{ObjectBytes}
 use Rattle.txn_law.specs.Window.{IsAsRead}
 use Rattle.inode.specs.declared.snap.Snap.{Snap}
-use Rattle.inode.specs.declared.stop.Stop.{Stop}
-use Rattle.inode.specs.declared.stop.Stop.TheVariants as stop
+use Rattle.inode.specs.declared.suspend.Suspend.{Suspend}
+use Rattle.inode.specs.declared.suspend.Suspend.TheVariants as suspend
 use Rattle.inode.specs.Snap.{same_addr}
 
 -- the address is that of an inode
@@ -39,11 +39,11 @@ pub record WasReadInode (g : Geometry) (objects : List ObjectBytes) (number : �
     pub is_inode : read_inode g bytes ≡ Ok (Some inode)
 
 -- a plan stops for the inode of a number
-abbrev pub IsAskedInode : Geometry → ℕ → Stop → Type 0
-IsAskedInode g number (stop.Need addr mode) = IsInodeAddr g number addr
-IsAskedInode g number (stop.Claim block) = ⊥
-IsAskedInode g number stop.Io = Unit {0}
-IsAskedInode g number stop.NoMemory = Unit {0}
+abbrev pub IsAskedInode : Geometry → ℕ → Suspend → Type 0
+IsAskedInode g number (suspend.Need addr mode) = IsInodeAddr g number addr
+IsAskedInode g number (suspend.Claim block) = ⊥
+IsAskedInode g number suspend.Io = Unit {0}
+IsAskedInode g number suspend.NoMemory = Unit {0}
 
 -- these blocks have what was read
 abbrev pub AreAsRead : Image → List ObjectBytes → Type 0
@@ -54,9 +54,9 @@ abbrev pub Saw : Image → Snap → Type 0
 Saw blocks snap = AreAsRead blocks snap.objects.items
 
 -- the plan failed, which it does for no blocks that hold the files of a tree
-abbrev pub NoneStand : Snap → Stop → Type 0
-NoneStand snap stop.Io = (blocks : Image) (tree : Tree) → Holds snap.geometry blocks tree → Saw blocks snap
+abbrev pub NoneStand : Snap → Suspend → Type 0
+NoneStand snap suspend.Io = (blocks : Image) (tree : Tree) → Holds snap.geometry blocks tree → Saw blocks snap
     → ⊥
-NoneStand snap stop.NoMemory = Unit {0}
-NoneStand snap (stop.Need addr mode) = Unit {0}
-NoneStand snap (stop.Claim block) = Unit {0}
+NoneStand snap suspend.NoMemory = Unit {0}
+NoneStand snap (suspend.Need addr mode) = Unit {0}
+NoneStand snap (suspend.Claim block) = Unit {0}

@@ -7,10 +7,10 @@ use Rattle.objects.specs.declared.mode.Mode.{Mode}
 use Rattle.objects.specs.declared.mode.Mode.TheVariants as modes
 use Rattle.disk.specs.declared.block.BlockNo.{BlockNo}
 use Rattle.objects.specs.Object.{ObjectBytes}
-use Rattle.txn_law.specs.Wishes.{IsWhole}
+use Rattle.txn_law.specs.LockAnswers.{IsWhole}
 use Rattle.inode.specs.declared.snap.Snap.{Snap}
-use Rattle.inode.specs.declared.stop.Stop.{Stop}
-use Rattle.inode.specs.declared.stop.Stop.TheVariants as stop
+use Rattle.inode.specs.declared.suspend.Suspend.{Suspend}
+use Rattle.inode.specs.declared.suspend.Suspend.TheVariants as suspend
 
 -- two addresses are one
 abbrev pub same_addr : Addr → Addr → Bool
@@ -26,8 +26,8 @@ is_among addr addrs = list_any (λ other. same_addr addr other) addrs
 
 -- an object of this address was read, and asked for in this mode or in a higher one
 abbrev pub is_had : Addr → Mode → List ObjectBytes → List Addr → Bool
-is_had addr modes.Shared objects alone = is_seen addr objects
-is_had addr modes.Exclusive objects alone = is_seen addr objects && is_among addr alone
+is_had addr modes.Shared objects exclusives = is_seen addr objects
+is_had addr modes.Exclusive objects exclusives = is_seen addr objects && is_among addr exclusives
 
 -- the block is among those that were claimed
 abbrev pub is_claimed : BlockNo → List BlockNo → Bool
@@ -40,27 +40,27 @@ with_read addr bytes objects =
 
 -- the addresses that were asked for alone, with one more that was asked for in this mode
 abbrev pub with_mode : Addr → Mode → List Addr → List Addr
-with_mode addr modes.Shared alone = alone
-with_mode addr modes.Exclusive alone = alone ++ addr ∷ []
+with_mode addr modes.Shared exclusives = exclusives
+with_mode addr modes.Exclusive exclusives = exclusives ++ addr ∷ []
 
 -- what was asked for alone was read
-pub record AreSeen (alone : List Addr) (objects : List ObjectBytes) : Type 0 where
-  pub all : (addr : Addr) → is_among addr alone ≡ true → is_seen addr objects ≡ true
+pub record AreSeen (exclusives : List Addr) (objects : List ObjectBytes) : Type 0 where
+  pub all : (addr : Addr) → is_among addr exclusives ≡ true → is_seen addr objects ≡ true
 
 -- there is room for one more object, in either mode, and one more claim
-pub record HasRoom (snap : Snap) : Type 0 where
+pub record HasReserved (snap : Snap) : Type 0 where
   pub objects : vec_len snap.objects < vec_capacity snap.objects
   pub claims : vec_len snap.claims < vec_capacity snap.claims
-  pub alone : vec_len snap.alone < vec_capacity snap.alone
+  pub exclusives : vec_len snap.exclusives < vec_capacity snap.exclusives
 
 -- an object of this address may be written: it was read, and asked for alone, or is a whole block that was claimed
 abbrev pub MayWrite : Snap → Addr → Type 0
-MayWrite snap addr = (is_had addr modes.Exclusive snap.objects.items snap.alone.items ≡ true)
+MayWrite snap addr = (is_had addr modes.Exclusive snap.objects.items snap.exclusives.items ≡ true)
     ⊎ ((is_claimed addr.block snap.claims.items ≡ true) × IsWhole addr.block addr)
 
 -- a plan stops for what wasn't asked for yet in this mode, or claimed yet
-abbrev pub IsNew : Snap → Stop → Type 0
-IsNew snap (stop.Need addr mode) = is_had addr mode snap.objects.items snap.alone.items ≡ false
-IsNew snap (stop.Claim block) = is_claimed block snap.claims.items ≡ false
-IsNew snap stop.Io = Unit {0}
-IsNew snap stop.NoMemory = Unit {0}
+abbrev pub IsNew : Snap → Suspend → Type 0
+IsNew snap (suspend.Need addr mode) = is_had addr mode snap.objects.items snap.exclusives.items ≡ false
+IsNew snap (suspend.Claim block) = is_claimed block snap.claims.items ≡ false
+IsNew snap suspend.Io = Unit {0}
+IsNew snap suspend.NoMemory = Unit {0}

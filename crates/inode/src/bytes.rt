@@ -8,12 +8,12 @@ ghost use Rattle.layout.specs.declared.inode.InodeKind.TheVariants as kinds;
 ghost use Rattle.layout.specs.Decode.{bytes_of, content_of};
 ghost use Rattle.layout.specs.InodeForm.{is_data_block_or_none};
 ghost use Rattle.layout.specs.Parts.{content_in};
-ghost use Rattle.inode.specs.Asked.{IsBlockAddr, IsNeededAt, IsNeededBetween, IsStopFor, MayStopFor};
-ghost use Rattle.inode.specs.Over.{HasInode, IsOver, IsPause, MayStop, all_bytes};
+ghost use Rattle.inode.specs.Asked.{IsBlockAddr, IsNeededAt, IsNeededBetween, IsSuspendFor, MaySuspendFor};
+ghost use Rattle.inode.specs.Over.{HasInode, IsOver, IsResumable, MaySuspend, all_bytes};
 
 use crate::map::{block_number, data_block, data_object};
 use crate::snap::Snap;
-use crate::stop::Stop;
+use crate::suspend::Suspend;
 use base::{BLOCK_BYTES, LARGEST_FILE, Pieces, SharedOctets, TARGET_BYTES};
 use layout::Inode;
 use std::alloc::{AllocError, Global};
@@ -25,14 +25,14 @@ fn block_part(
     number: u32,
     from: usize,
     len: usize,
-) -> Result<SharedOctets, Stop>
+) -> Result<SharedOctets, Suspend>
     requires placed { is_data_block_or_none snap.now.geometry number ≡ true }
     requires within { from + len ≤ BLOCK_BYTES }
     ensures ok { IfOk result (λ part. (blocks : Image) (tree : Tree) → IsOver snap.now blocks tree
         → part ≡ take len (drop from (content_of (content_in snap.now.geometry blocks) number))) }
-    ensures err { IfErr result (λ stop. MayStop snap.now stop) }
-    ensures asks { IfErr result (λ stop. MayStopFor (IsBlockAddr number) stop) }
-    ensures pause { IfErr result (λ stop. IsPause stop) }
+    ensures err { IfErr result (λ suspend. MaySuspend snap.now suspend) }
+    ensures asks { IfErr result (λ suspend. MaySuspendFor (IsBlockAddr number) suspend) }
+    ensures resumable { IfErr result (λ suspend. IsResumable suspend) }
 {
     if number == 0 {
         let zeros = SharedOctets::copied(alloc, &[0; BLOCK_BYTES][from..from + len])?;
@@ -50,11 +50,11 @@ fn piece_len(at: u64, end: u64) -> usize
     ensures within { at % BLOCK_BYTES + result ≤ BLOCK_BYTES }
     ensures end { at + result ≤ end }
 {
-    let room = BLOCK_BYTES - (at % BLOCK_BYTES as u64) as usize;
-    if end - at < room as u64 {
+    let bytes_left = BLOCK_BYTES - (at % BLOCK_BYTES as u64) as usize;
+    if end - at < bytes_left as u64 {
         (end - at) as usize
     } else {
-        room
+        bytes_left
     }
 }
 
@@ -67,12 +67,12 @@ fn blocks_between(start: u64, end: u64) -> usize
 }
 
 /// Asks for the block at an index of a file, if it has one.
-pub fn ask_block(snap: &Snap, inode: &Inode, index: usize) -> Result<(), Stop>
+pub fn ask_block(snap: &Snap, inode: &Inode, index: usize) -> Result<(), Suspend>
     requires { index < FILE_INDEXES }
-    ensures err { IfErr result (λ stop. MayStop snap.now stop) }
-    ensures asks { IfErr result (λ stop. IsStopFor (IsNeededAt snap.now inode.now index) stop) }
-    ensures pause { IfErr result (λ stop. (blocks : Image) (tree : Tree) (file : ℕ)
-        → HasInode snap.now blocks tree file inode.now → IsPause stop) }
+    ensures err { IfErr result (λ suspend. MaySuspend snap.now suspend) }
+    ensures asks { IfErr result (λ suspend. IsSuspendFor (IsNeededAt snap.now inode.now index) suspend) }
+    ensures resumable { IfErr result (λ suspend. (blocks : Image) (tree : Tree) (file : ℕ)
+        → HasInode snap.now blocks tree file inode.now → IsResumable suspend) }
 {
     let number = block_number(snap, inode, index)?;
     if number != 0 {
@@ -82,12 +82,12 @@ pub fn ask_block(snap: &Snap, inode: &Inode, index: usize) -> Result<(), Stop>
 }
 
 // Asks for the blocks of a file from one place to another, so that its bytes are copied only once all are there.
-fn ask_between(snap: &Snap, inode: &Inode, start: u64, end: u64) -> Result<(), Stop>
+fn ask_between(snap: &Snap, inode: &Inode, start: u64, end: u64) -> Result<(), Suspend>
     requires { end ≤ LARGEST_FILE }
-    ensures err { IfErr result (λ stop. MayStop snap.now stop) }
-    ensures asks { IfErr result (λ stop. IsStopFor (IsNeededBetween snap.now inode.now start end) stop) }
-    ensures pause { IfErr result (λ stop. (blocks : Image) (tree : Tree) (file : ℕ)
-        → HasInode snap.now blocks tree file inode.now → IsPause stop) }
+    ensures err { IfErr result (λ suspend. MaySuspend snap.now suspend) }
+    ensures asks { IfErr result (λ suspend. IsSuspendFor (IsNeededBetween snap.now inode.now start end) suspend) }
+    ensures resumable { IfErr result (λ suspend. (blocks : Image) (tree : Tree) (file : ℕ)
+        → HasInode snap.now blocks tree file inode.now → IsResumable suspend) }
 {
     let first = (start / BLOCK_BYTES as u64) as usize;
     let past = ((end + BLOCK_BYTES as u64 - 1) / BLOCK_BYTES as u64) as usize;
@@ -104,19 +104,19 @@ fn bytes_between(
     inode: &Inode,
     start: u64,
     end: u64,
-) -> Result<Pieces, Stop>
+) -> Result<Pieces, Suspend>
     requires order { start ≤ end }
     requires small { end ≤ LARGEST_FILE }
     ensures ok { IfOk result (λ bytes. (blocks : Image) (tree : Tree) (file : ℕ)
         → HasInode snap.now blocks tree file inode.now
         → bytes ≡ take (end - start) (drop start (all_bytes snap.now.geometry blocks inode.now))) }
-    ensures err { IfErr result (λ stop. MayStop snap.now stop) }
-    ensures asks { IfErr result (λ stop. MayStopFor (IsNeededBetween snap.now inode.now start end) stop) }
-    ensures pause { IfErr result (λ stop. (blocks : Image) (tree : Tree) (file : ℕ)
-        → HasInode snap.now blocks tree file inode.now → IsPause stop) }
+    ensures err { IfErr result (λ suspend. MaySuspend snap.now suspend) }
+    ensures asks { IfErr result (λ suspend. MaySuspendFor (IsNeededBetween snap.now inode.now start end) suspend) }
+    ensures resumable { IfErr result (λ suspend. (blocks : Image) (tree : Tree) (file : ℕ)
+        → HasInode snap.now blocks tree file inode.now → IsResumable suspend) }
 {
     ask_between(snap, inode, start, end)?;
-    let mut bytes = Pieces::with_room(alloc, blocks_between(start, end))?;
+    let mut bytes = Pieces::with_reserved(alloc, blocks_between(start, end))?;
     let mut at = start;
     'pieces: while at < end {
         let len = piece_len(at, end);
@@ -136,18 +136,18 @@ pub fn piece(
     inode: &Inode,
     offset: u64,
     count: u32,
-) -> Result<Pieces, Stop>
+) -> Result<Pieces, Suspend>
     ensures ok { IfOk result (λ bytes. (blocks : Image) (tree : Tree) (file : ℕ)
         → HasInode snap.now blocks tree file inode.now → bytes
         ≡ take count (drop offset (take inode.now.size (all_bytes snap.now.geometry blocks inode.now)))) }
-    ensures err { IfErr result (λ stop. MayStop snap.now stop) }
-    ensures asks { IfErr result (λ stop. MayStopFor
-        (IsNeededBetween snap.now inode.now offset (min inode.now.size (offset + count))) stop) }
-    ensures pause { IfErr result (λ stop. (blocks : Image) (tree : Tree) (file : ℕ)
-        → HasInode snap.now blocks tree file inode.now → inode.now.kind ≡ kinds.Regular → IsPause stop) }
+    ensures err { IfErr result (λ suspend. MaySuspend snap.now suspend) }
+    ensures asks { IfErr result (λ suspend. MaySuspendFor
+        (IsNeededBetween snap.now inode.now offset (min inode.now.size (offset + count))) suspend) }
+    ensures resumable { IfErr result (λ suspend. (blocks : Image) (tree : Tree) (file : ℕ)
+        → HasInode snap.now blocks tree file inode.now → inode.now.kind ≡ kinds.Regular → IsResumable suspend) }
 {
     if inode.size > LARGEST_FILE {
-        return Err(Stop::Io);
+        return Err(Suspend::Io);
     }
     if offset >= inode.size {
         return Ok(Pieces::new(alloc));
@@ -161,14 +161,14 @@ pub fn piece(
 }
 
 // The first bytes of the block of a number: zeros where there is none.
-fn first_bytes(alloc: Global, snap: &Snap, number: u32, len: usize) -> Result<Vec<u8>, Stop>
+fn first_bytes(alloc: Global, snap: &Snap, number: u32, len: usize) -> Result<Vec<u8>, Suspend>
     requires placed { is_data_block_or_none snap.now.geometry number ≡ true }
     requires within { len ≤ BLOCK_BYTES }
     ensures ok { IfOk result (λ bytes. (blocks : Image) (tree : Tree) → IsOver snap.now blocks tree
         → bytes.items ≡ take len (drop 0 (content_of (content_in snap.now.geometry blocks) number))) }
-    ensures err { IfErr result (λ stop. MayStop snap.now stop) }
-    ensures asks { IfErr result (λ stop. MayStopFor (IsBlockAddr number) stop) }
-    ensures pause { IfErr result (λ stop. IsPause stop) }
+    ensures err { IfErr result (λ suspend. MaySuspend snap.now suspend) }
+    ensures asks { IfErr result (λ suspend. MaySuspendFor (IsBlockAddr number) suspend) }
+    ensures resumable { IfErr result (λ suspend. IsResumable suspend) }
 {
     let part = block_part(alloc, snap, number, 0, len)?;
     let bytes = Vec::from_slice(alloc, part.as_slice())?;
@@ -176,21 +176,21 @@ fn first_bytes(alloc: Global, snap: &Snap, number: u32, len: usize) -> Result<Ve
 }
 
 /// The target of a link.
-pub fn target(alloc: Global, snap: &Snap, inode: &Inode) -> Result<Vec<u8>, Stop>
+pub fn target(alloc: Global, snap: &Snap, inode: &Inode) -> Result<Vec<u8>, Suspend>
     ensures ok { IfOk result (λ bytes. (blocks : Image) (tree : Tree) (file : ℕ)
         → HasInode snap.now blocks tree file inode.now
         → bytes.items ≡ take inode.now.size (bytes_of (content_in snap.now.geometry blocks)
         (take 1 inode.now.direct))) }
-    ensures err { IfErr result (λ stop. MayStop snap.now stop) }
-    ensures asks { IfErr result (λ stop. MayStopFor (IsNeededAt snap.now inode.now 0) stop) }
-    ensures pause { IfErr result (λ stop. (blocks : Image) (tree : Tree) (file : ℕ)
-        → HasInode snap.now blocks tree file inode.now → inode.now.kind ≡ kinds.Link → IsPause stop) }
+    ensures err { IfErr result (λ suspend. MaySuspend snap.now suspend) }
+    ensures asks { IfErr result (λ suspend. MaySuspendFor (IsNeededAt snap.now inode.now 0) suspend) }
+    ensures resumable { IfErr result (λ suspend. (blocks : Image) (tree : Tree) (file : ℕ)
+        → HasInode snap.now blocks tree file inode.now → inode.now.kind ≡ kinds.Link → IsResumable suspend) }
 {
     if inode.size > TARGET_BYTES as u64 {
-        return Err(Stop::Io);
+        return Err(Suspend::Io);
     }
     match block_number(snap, inode, 0) {
         Ok(number) => first_bytes(alloc, snap, number, inode.size as usize),
-        Err(stop) => Err(stop),
+        Err(suspend) => Err(suspend),
     }
 }

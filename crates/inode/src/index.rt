@@ -1,11 +1,8 @@
 //! Where the objects of a list stand, by their addresses, so that one is found without a walk.
-ghost use Rattle.std.specs.Prelude.{◌≡◌, ◌∷◌, ◌++◌, [], OnOk};
+ghost use Rattle.std.specs.Prelude.{◌≡◌, ◌∷◌, ◌++◌, ◌<◌, [], OnOk};
 
 use std::alloc::{AllocError, Global};
 use std::marker::Model;
-
-// Into how many lists the positions are parted. Some 2,000 objects are read for a call at most.
-const BUCKETS: usize = 256;
 
 /// The positions of objects in a list, by a key of the address of each. A clause sees the positions of each bucket.
 #[derive(Drop)]
@@ -20,39 +17,46 @@ impl Model for AddressIndex {
 
     ghost view = { λ p. map (λ bucket. bucket.items) p.buckets.items };
 
-    ghost use Rattle.std.specs.Prelude.{◌≡◌, vec_len};
-    ghost use Rattle.inode.specs.declared.index.TheConstants.{BUCKETS};
+    ghost use Rattle.std.specs.Prelude.{◌<◌, vec_len};
 
-    ghost invariant = { λ p. vec_len p.buckets ≡ BUCKETS };
+    ghost invariant = { λ p. 0 < vec_len p.buckets };
 }
 
 impl AddressIndex {
-    ghost use Rattle.std.specs.Prelude.{◌≡◌, ℕ, true, OnOk};
+    ghost use Rattle.std.specs.Prelude.{◌≡◌, ◌<◌, ℕ, true, OnOk};
     ghost use Rattle.inode.specs.Indexed.{under, is_under};
 
-    /// No position is known yet.
-    pub(crate) fn new(alloc: Global) -> Result<AddressIndex, AllocError> {
-        let mut buckets = Vec::with_capacity(alloc, BUCKETS)?;
-        for _ in 0..BUCKETS {
+    /// No position is known yet. They are to be parted into so many buckets.
+    pub(crate) fn new(alloc: Global, count: usize) -> Result<AddressIndex, AllocError>
+        requires { 0 < count }
+    {
+        let mut buckets = Vec::with_capacity(alloc, count)?;
+        for _ in 0..count {
             buckets.push(Vec::new(alloc))?;
         }
         Ok(AddressIndex { buckets })
     }
 
-    /// The positions under a key, among them those under others.
+    /// Whether so many positions are more than there are buckets: one of these then has more than one.
+    pub(crate) fn is_crowded(&self, positions: usize) -> bool {
+        positions > self.buckets.len()
+    }
+
+    /// The positions under a key, among those of other keys of its bucket.
     pub(crate) fn under(&self, key: usize) -> &[usize]
         ensures { result.now ≡ under key self.now }
     {
-        &self.buckets[key % BUCKETS]
+        &self.buckets[key % self.buckets.len()]
     }
 
-    /// Notes a position under a key.
-    pub(crate) fn note(&mut self, key: usize, position: usize) -> Result<(), AllocError>
+    /// Adds a position under a key.
+    pub(crate) fn track(&mut self, key: usize, position: usize) -> Result<(), AllocError>
         ensures there { OnOk result (is_under position key self.new ≡ true) }
         ensures stays { OnOk result ((other at : ℕ) → is_under at other self.old ≡ true
             → is_under at other self.new ≡ true) }
     {
-        add(&mut self.buckets[key % BUCKETS], position)
+        let bucket = key % self.buckets.len();
+        add(&mut self.buckets[bucket], position)
     }
 }
 

@@ -3,9 +3,9 @@ ghost use Rattle.std.specs.Prelude.{◌≡◌, ◌<◌, vec_len, vec_capacity, O
 ghost use Rattle.layout.specs.declared.version.FormatVersion.TheVariants.{Second};
 ghost use Rattle.inode.specs.Indexed.{IsIndexed};
 
-use crate::alone::{is_among, note};
-use crate::finding::{find, walk, with_last};
+use crate::exclusives::{is_among, track};
 use crate::index::AddressIndex;
+use crate::lookup::{find, walk, with_last};
 use disk::BlockNo;
 use layout::Geometry;
 use objects::{Addr, Mode, Object, SharedBytes};
@@ -23,7 +23,7 @@ pub struct Snap {
     pub geometry: Geometry,
     pub asks: Mode,
     pub objects: Vec<Object>,
-    pub alone: Vec<Addr>,
+    pub exclusives: Vec<Addr>,
     pub claims: Vec<BlockNo>,
     pub from: u32,
     pub index: Option<AddressIndex>,
@@ -35,7 +35,7 @@ impl Snap {
     ghost use Rattle.std.specs.Prelude.{◌≡◌, ◌<◌, false, true, ◌∷◌, [], ◌++◌, length, vec_len, vec_capacity};
     ghost use Rattle.std.specs.Prelude.{Contains, IfSome, IfNone, OnOk};
     ghost use Rattle.objects.specs.declared.mode.Mode.TheVariants as modes;
-    ghost use Rattle.inode.specs.Snap.{HasRoom, is_claimed, is_had, is_seen, same_addr, with_mode, with_read};
+    ghost use Rattle.inode.specs.Snap.{HasReserved, is_claimed, is_had, is_seen, same_addr, with_mode, with_read};
 
     /// Nothing was read yet. What is read is asked for in this mode.
     pub fn new(alloc: Global, geometry: Geometry, from: u32, asks: Mode) -> Snap
@@ -44,14 +44,14 @@ impl Snap {
         ensures from { result.from ≡ from }
         ensures asks { result.asks ≡ asks }
         ensures objects { result.objects.items ≡ [] }
-        ensures alone { result.alone.items ≡ [] }
+        ensures exclusives { result.exclusives.items ≡ [] }
         ensures claims { result.claims.items ≡ [] }
     {
         Snap {
             geometry,
             asks,
             objects: Vec::new(alloc),
-            alone: Vec::new(alloc),
+            exclusives: Vec::new(alloc),
             claims: Vec::new(alloc),
             from,
             index: None,
@@ -59,32 +59,32 @@ impl Snap {
     }
 
     /// Makes room for one more object and one more claim.
-    pub fn make_room(&mut self) -> Result<(), AllocError>
-        ensures room { OnOk result (HasRoom self.new) }
+    pub fn reserve_next(&mut self) -> Result<(), AllocError>
+        ensures has_space { OnOk result (HasReserved self.new) }
         ensures geometry { self.new.geometry ≡ self.old.geometry }
         ensures asks { self.new.asks ≡ self.old.asks }
         ensures objects { self.new.objects.items ≡ self.old.objects.items }
-        ensures alone { self.new.alone.items ≡ self.old.alone.items }
+        ensures exclusives { self.new.exclusives.items ≡ self.old.exclusives.items }
         ensures claims { self.new.claims.items ≡ self.old.claims.items }
         ensures from { self.new.from ≡ self.old.from }
     {
         reserve_one(&mut self.objects)?;
-        reserve_one(&mut self.alone)?;
+        reserve_one(&mut self.exclusives)?;
         reserve_one(&mut self.claims)
     }
 
     /// Adds an object that was read in a mode, for which there is room. One that was read before is had in this mode, too.
     pub fn add(&mut self, addr: Addr, mode: Mode, bytes: SharedBytes)
         requires len { length bytes ≡ addr.len }
-        requires room { HasRoom self.old }
+        requires has_space { HasReserved self.old }
         ensures objects { self.new.objects.items ≡ with_read addr bytes self.old.objects.items }
-        ensures alone { self.new.alone.items ≡ with_mode addr mode self.old.alone.items }
+        ensures exclusives { self.new.exclusives.items ≡ with_mode addr mode self.old.exclusives.items }
         ensures geometry { self.new.geometry ≡ self.old.geometry }
         ensures asks { self.new.asks ≡ self.old.asks }
         ensures claims { self.new.claims.items ≡ self.old.claims.items }
         ensures from { self.new.from ≡ self.old.from }
     {
-        note(&mut self.alone, addr, mode);
+        track(&mut self.exclusives, addr, mode);
         if self.has_read(addr) {
             return;
         }
@@ -94,10 +94,10 @@ impl Snap {
     // Adds an object that wasn't read before.
     fn push(&mut self, addr: Addr, bytes: SharedBytes)
         requires len { length bytes ≡ addr.len }
-        requires room { vec_len self.old.objects < vec_capacity self.old.objects }
+        requires has_space { vec_len self.old.objects < vec_capacity self.old.objects }
         ensures objects { self.new.objects.items ≡ self.old.objects.items
             ++ record { addr = addr; bytes = bytes } ∷ [] }
-        ensures alone { self.new.alone ≡ self.old.alone }
+        ensures exclusives { self.new.exclusives ≡ self.old.exclusives }
         ensures geometry { self.new.geometry ≡ self.old.geometry }
         ensures asks { self.new.asks ≡ self.old.asks }
         ensures claims { self.new.claims ≡ self.old.claims }
@@ -114,12 +114,12 @@ impl Snap {
 
     /// Notes that a block was claimed, for which there is room.
     pub fn claimed(&mut self, block: BlockNo)
-        requires { HasRoom self.old }
+        requires { HasReserved self.old }
         ensures claims { self.new.claims.items ≡ self.old.claims.items ++ block ∷ [] }
         ensures geometry { self.new.geometry ≡ self.old.geometry }
         ensures asks { self.new.asks ≡ self.old.asks }
         ensures objects { self.new.objects.items ≡ self.old.objects.items }
-        ensures alone { self.new.alone.items ≡ self.old.alone.items }
+        ensures exclusives { self.new.exclusives.items ≡ self.old.exclusives.items }
         ensures from { self.new.from ≡ self.old.from }
     {
         match self.claims.push(block) {
@@ -146,10 +146,10 @@ impl Snap {
     }
 
     /// Whether an object of this address was read, and was asked for alone.
-    pub fn has_alone(&self, addr: Addr) -> bool
-        ensures { result ≡ is_had addr modes.Exclusive self.now.objects.items self.now.alone.items }
+    pub fn has_exclusive(&self, addr: Addr) -> bool
+        ensures { result ≡ is_had addr modes.Exclusive self.now.objects.items self.now.exclusives.items }
     {
-        self.has_read(addr) && is_among(addr, &self.alone)
+        self.has_read(addr) && is_among(addr, &self.exclusives)
     }
 
     /// The object of an address, if it was read.
@@ -167,7 +167,7 @@ impl Snap {
 
 // Makes room for one more: where there is none, for as many at once as most calls read.
 fn reserve_one<T>(list: &mut Vec<T>) -> Result<(), AllocError>
-    ensures room { OnOk result (vec_len list.new < vec_capacity list.new) }
+    ensures has_space { OnOk result (vec_len list.new < vec_capacity list.new) }
     ensures items { list.new.items ≡ list.old.items }
 {
     if list.len() < list.capacity() {

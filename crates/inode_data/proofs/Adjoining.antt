@@ -19,7 +19,7 @@ use Rattle.nfs_spec.proofs.ModelLemmas.Costs.{more_cost}
 use Rattle.nfs_spec.proofs.ModelLemmas.Maps.{sum_insert}
 use Rattle.nfs_spec.proofs.ModelLemmas.Sets.{has, itself}
 use Rattle.nfs_spec.specs.Procedures.Write.{mapped_with, overwritten, touched, with_text}
-use Rattle.nfs_spec.proofs.ProceduresLemmas.Overwriting.{kept_before, kept_behind, length_overwritten, written_at}
+use Rattle.nfs_spec.proofs.ProceduresLemmas.Overwriting.{preserved_before, preserved_behind, length_overwritten, written_at}
 
 -- ---- bytes
 
@@ -35,8 +35,8 @@ module _ (offset : ℕ) (t p bytes : List ℕ) where
   two_items i =
       let long = length-append t p in
       elim (cases_lt i (offset + length t)) [
-        | inl early ↦ kept_before (offset + length t) i p first early ∙ (elim (cases_lt i offset) [
-          | inl before ↦ kept_before offset i t bytes before ∙ sym (kept_before offset i both bytes before)
+        | inl early ↦ preserved_before (offset + length t) i p first early ∙ (elim (cases_lt i offset) [
+          | inl before ↦ preserved_before offset i t bytes before ∙ sym (preserved_before offset i both bytes before)
           | inr inside ↦ written_at offset i t bytes inside early
               ∙ sym (written_at offset i both bytes inside (omega (arith, early, long))
               ∙ get_or_append_left t p 0 (i - offset) (omega (arith, inside, early)))
@@ -48,9 +48,9 @@ module _ (offset : ℕ) (t p bytes : List ℕ) where
               ∙ sym (written_at offset i both bytes (omega (arith, late)) (omega (arith, inside, long))
               ∙ get_or-append_right t p (length t) (i - offset) 0 refl (omega (arith, late))
               ∙ ap (λ k. get_or p k 0) there)
-          | inr behind ↦ kept_behind (offset + length t) i p first behind
-              ∙ kept_behind offset i t bytes (omega (arith, late))
-              ∙ sym (kept_behind offset i both bytes (omega (arith, behind, long)))
+          | inr behind ↦ preserved_behind (offset + length t) i p first behind
+              ∙ preserved_behind offset i t bytes (omega (arith, late))
+              ∙ sym (preserved_behind offset i both bytes (omega (arith, behind, long)))
         ])
       ]
 
@@ -173,10 +173,10 @@ put_twice tree n one two = ap (λ nodes. record { geometry = tree.geometry; node
     last false was = refl
 
 -- what is left of the room behind a part
-pub next_room : (tree : Tree) (n : ℕ) (node : Node) (one two full : Body) → node_at tree n ≡ Some node
+pub next_space : (tree : Tree) (n : ℕ) (node : Node) (one two full : Body) → node_at tree n ≡ Some node
     → cost node.body ≤ cost one → cost one ≤ cost two → cost two ≤ cost full
     → cost full - cost node.body ≤ free tree
     → cost two - cost one ≤ free (with_node tree n (record node { body = one }))
-next_room tree n node one two full was low more most room =
+next_space tree n node one two full was low more most has_space =
     let sum = sum_insert (λ (e : ℕ × Node). cost e.1.body) n node (record node { body = one }) tree.nodes was in
-    omega (arith, sum, low, more, most, room)
+    omega (arith, sum, low, more, most, has_space)

@@ -23,19 +23,19 @@ use Rattle.layout.proofs.ChangedNumbers.{alike_pointers, direct_set, indirect_se
 use Rattle.layout.proofs.ChangedNumbers.{same_pointers}
 use Rattle.layout.proofs.FileNumbers.{pass_pointers}
 use Rattle.layout.proofs.NumbersIn.{in_length, same_doubled, some_in}
-use Rattle.inode.proofs.DraftsLemmas.Marks.{times}
+use Rattle.inode.proofs.WriteSetsLemmas.Marks.{times}
 use Rattle.inode.proofs.InodeThere.{data_of}
 use Rattle.inode.proofs.Placed.{passes_at}
 use Rattle.bitmap.specs.NewBlock.{IsFreeBlock}
 use Rattle.inode_data.specs.Filling.{Fills, HasMapped, IsPiece, grown_size, mapping}
-use Rattle.inode_data.proofs.FarNumbers.{far_none, far_set}
+use Rattle.inode_data.proofs.PointerNumbers.{pointer_none, pointer_set}
 use Rattle.inode_data.proofs.OneNumber.{all_still, any_behind, is_some, some}
 use Rattle.inode_data.proofs.MappedFile.{content, count, long_content, numbers, sound}
-use Rattle.inode_data.proofs.Owned.{all_kept, alone, data_fits, direct_count, direct_fits, double_holds, each_place}
-use Rattle.inode_data.proofs.Owned.{far_at_first, free_not_own, inner_holds, many_pointers, not_behind, not_first}
+use Rattle.inode_data.proofs.Owned.{all_preserved, times_one, data_fits, direct_count, direct_fits, double_holds, each_index_within}
+use Rattle.inode_data.proofs.Owned.{indirect_at_first, free_not_own, inner_holds, many_pointers, not_behind, not_first}
 use Rattle.inode_data.proofs.Owned.{not_pointer, numbers_apart, one_ahead, one_behind}
 use Rattle.inode_data.proofs.Owned.{one_first, one_if_same, or_right}
-use Rattle.inode_data.proofs.Owned.{own_far, own_number, placed, pointers_used, put_else, put_here, used_alike}
+use Rattle.inode_data.proofs.Owned.{own_indirect, own_number, placed, pointers_used, put_else, put_here, used_alike}
 use Rattle.inode_data.proofs.PieceWritten.{not_zero, or_data}
 
 no_more : (k : ℕ) → k ≡ 0 + k
@@ -97,8 +97,8 @@ module _ (g : Geometry) (base : Image) (tree : Tree) (n : ℕ) (inode : Inode)
       there_some : nat_eq (get_or all index 0) 0 ≡ false
       there_some = ap (λ k. nat_eq k 0) (sym b_is) ∙ b_some
 
-      kept : set all index b ≡ all
-      kept = ap (set all index) b_is ∙ set-get_or all index 0
+      is_preserved : set all index b ≡ all
+      is_preserved = ap (set all index) b_is ∙ set-get_or all index 0
 
       lies_there : is_data g b ≡ true
       lies_there = data_of (nat_eq b 0) (is_data g b) b_some
@@ -107,37 +107,37 @@ module _ (g : Geometry) (base : Image) (tree : Tree) (n : ℕ) (inode : Inode)
       b_own : 1 ≤ times b own
       b_own = subst (λ k. 1 ≤ times k own) (sym b_is) (own_number g base tree n inode has index low there_some)
 
-      pointers_kept : AllByRecursion (λ number. nat_eq number 0 ≡ false → put was b block number ≡ was number) pointers
-      pointers_kept = each_place (λ number. nat_eq number 0 ≡ false → put was b block number ≡ was number) pointers
+      pointers_preserved : AllByRecursion (λ number. nat_eq number 0 ≡ false → put was b block number ≡ was number) pointers
+      pointers_preserved = each_index_within (λ number. nat_eq number 0 ≡ false → put was b block number ≡ was number) pointers
           (λ i less some_i. put_else was b block (get_or pointers i 0) (λ same.
           not_pointer g base tree n inode has i index less low there_some (same ∙ b_is)))
 
       pointers_there : pointer_blocks (put was b block)
           (mapping inode size inode.direct inode.indirect inode.double) ≡ pointers
       pointers_there = (sized_numbers (put was b block) inode size).1
-          ∙ (same_numbers was (put was b block) inode pointers_kept).1
+          ∙ (same_numbers was (put was b block) inode pointers_preserved).1
 
       pub block_there : Fills g base inode offset piece b inode.direct inode.indirect inode.double (put was b block) []
       block_there = record {
         now = (sized_numbers (put was b block) inode size).0
-            ∙ (same_numbers was (put was b block) inode pointers_kept).0 ∙ sym kept;
+            ∙ (same_numbers was (put was b block) inode pointers_preserved).0 ∙ sym is_preserved;
         lies = lies_there;
         here = put_here was b block ∙ block_is;
         others = λ j less other some_j. put_else was b block (get_or all j 0) (λ same.
             numbers_apart g base tree n inode has index j (λ e. other (sym e)) low less (sym b_is ∙ sym same) some_j);
         used = ap (list_all (is_used_pointer (put was b block))) pointers_there
-            ∙ used_alike was (put was b block) pointers (same_pointers was (put was b block) pointers pointers_kept)
+            ∙ used_alike was (put was b block) pointers (same_pointers was (put was b block) pointers pointers_preserved)
             ∙ has.mapped.used;
         count = direct_count g base tree n inode has;
         fit = direct_fits g base tree n inode has;
         placed = (placed g base tree n inode has).0;
-        far_fits = (sound g base tree n inode has).fits.indirect;
+        indirect_fits = (sound g base tree n inode has).fits.indirect;
         double_fits = (sound g base tree n inode has).fits.double;
         pointers_placed = ap (list_all test) pointers_there ∙ has.mapped.pointers;
         has_double = (placed g base tree n inode has).3;
         outside = λ q none new. put_else was b block q (λ same.
             let some_b = b_own in let no = ap (λ k. times k own) same in absurd (omega (arith, some_b, no, none)));
-        counted = λ q. (λ i. times q (some (pointers_there i ++ kept i))) ∙ no_more (times q own);
+        counted = λ q. (λ i. times q (some (pointers_there i ++ is_preserved i))) ∙ no_more (times q own);
         were_free = tt;
         once = λ q. omega arith;
       }
@@ -154,51 +154,51 @@ module _ (g : Geometry) (base : Image) (tree : Tree) (n : ℕ) (inode : Inode)
       not_new = free_not_own g base tree n inode has b free
 
       one_gained : (q : ℕ) → times q (b ∷ []) ≤ 1
-      one_gained q = at_most (nat_eq b q) (alone q b)
+      one_gained q = at_most (nat_eq b q) (times_one q b)
         where
           at_most : (t : Bool) → {k : ℕ} → k ≡ cond t 1 0 → k ≤ 1
           at_most true e = omega (arith, e)
           at_most false e = omega (arith, e)
 
-      module _ (near : index < DIRECT_INDEXES) where
-        abbrev near_new : Inode
-        near_new = mapping inode size (set inode.direct index b) inode.indirect inode.double
+      module _ (direct_part : index < DIRECT_INDEXES) where
+        abbrev direct_new : Inode
+        direct_new = mapping inode size (set inode.direct index b) inode.indirect inode.double
 
-        kept_all : AllByRecursion (λ number. nat_eq number 0 ≡ false → put was b block number ≡ was number) pointers
-        kept_all = all_kept g base tree n inode has (put was b block) (λ q some_q.
+        preserved_all : AllByRecursion (λ number. nat_eq number 0 ≡ false → put was b block number ≡ was number) pointers
+        preserved_all = all_preserved g base tree n inode has (put was b block) (λ q some_q.
             put_else was b block q (not_new q some_q))
 
         same : (numbers_in (put was b block) inode.indirect ≡ numbers_in was inode.indirect)
             × (numbers_in (put was b block) inode.double ≡ inners)
             × (doubled_in (put was b block) inode.double ≡ doubled_in was inode.double)
-        same = same_parts was (put was b block) inode kept_all
+        same = same_parts was (put was b block) inode preserved_all
 
-        pointers_near : pointer_blocks (put was b block) near_new ≡ pointers
-        pointers_near = alike_pointers was (put was b block) inode near_new refl refl same.1
+        pointers_direct : pointer_blocks (put was b block) direct_new ≡ pointers
+        pointers_direct = alike_pointers was (put was b block) inode direct_new refl refl same.1
 
         pub block_named : Fills g base inode offset piece b (set inode.direct index b) inode.indirect inode.double
             (put was b block) (b ∷ [])
         block_named = record {
-          now = direct_set was (put was b block) inode near_new (direct_count g base tree n inode has) index b near refl
+          now = direct_set was (put was b block) inode direct_new (direct_count g base tree n inode has) index b direct_part refl
               same.0 same.2;
           lies = free.lies;
           here = put_here was b block ∙ block_is;
           others = λ j less other some_j. put_else was b block (get_or all j 0)
               (not_new (get_or all j 0) (own_number g base tree n inode has j less some_j));
-          used = ap (list_all (is_used_pointer (put was b block))) pointers_near
-              ∙ used_alike was (put was b block) pointers (same_pointers was (put was b block) pointers kept_all)
+          used = ap (list_all (is_used_pointer (put was b block))) pointers_direct
+              ∙ used_alike was (put was b block) pointers (same_pointers was (put was b block) pointers preserved_all)
               ∙ has.mapped.used;
           count = length-set inode.direct index b ∙ direct_count g base tree n inode has;
           fit = all_set (λ number. number < 2 ^ 32) inode.direct index b (data_fits g base tree n inode has b free.lies)
               (direct_fits g base tree n inode has);
           placed = all_still test inode.direct index b (placed g base tree n inode has).0 (or_data g b free.lies);
-          far_fits = (sound g base tree n inode has).fits.indirect;
+          indirect_fits = (sound g base tree n inode has).fits.indirect;
           double_fits = (sound g base tree n inode has).fits.double;
-          pointers_placed = ap (list_all test) pointers_near ∙ has.mapped.pointers;
+          pointers_placed = ap (list_all test) pointers_direct ∙ has.mapped.pointers;
           has_double = (placed g base tree n inode has).3;
           outside = λ q not_own new. put_else was b block q (not_first q b [] new);
-          counted = λ q. ap (λ l. times q (some (l ++ set all index b))) pointers_near
-              ∙ one_behind q b pointers all index b_is_some low none ∙ ap (λ k. k + times q own) (sym (alone q b));
+          counted = λ q. ap (λ l. times q (some (l ++ set all index b))) pointers_direct
+              ∙ one_behind q b pointers all index b_is_some low none ∙ ap (λ k. k + times q own) (sym (times_one q b));
           were_free = (free, tt);
           once = one_gained;
         }
@@ -206,186 +206,186 @@ module _ (g : Geometry) (base : Image) (tree : Tree) (n : ℕ) (inode : Inode)
       -- ---- by the indirect block
 
       module _ (past : DIRECT_INDEXES ≤ index) (within : index < FIRST_DOUBLE_INDEX) where
-        abbrev place : ℕ
-        place = index - DIRECT_INDEXES
+        abbrev index_within : ℕ
+        index_within = index - DIRECT_INDEXES
 
-        far_low : place < INDIRECT_INDEXES
-        far_low = omega (arith, past, within)
+        indirect_low : index_within < INDIRECT_INDEXES
+        indirect_low = omega (arith, past, within)
 
         some_pointer : 0 < length pointers
         some_pointer = let long = many_pointers g base tree n inode has in omega (arith, long)
 
         -- whatever block names it, where the file's other pointer blocks are as they were
-        module _ (after : Image) (far : ℕ)
-            (kept : (q : ℕ) → 1 ≤ times q own → (q ≡ get_or pointers 0 0 → ⊥) → after q ≡ was q)
-            (in_far : numbers_in after far ≡ set (numbers_in was inode.indirect) place b) where
-          abbrev far_new : Inode
-          far_new = mapping inode size inode.direct far inode.double
+        module _ (after : Image) (indirect_block : ℕ)
+            (is_preserved : (q : ℕ) → 1 ≤ times q own → (q ≡ get_or pointers 0 0 → ⊥) → after q ≡ was q)
+            (in_indirect : numbers_in after indirect_block ≡ set (numbers_in was inode.indirect) index_within b) where
+          abbrev indirect_new : Inode
+          indirect_new = mapping inode size inode.direct indirect_block inode.double
 
           top : numbers_in after inode.double ≡ inners
-          top = double_holds g base tree n inode has after 0 some_pointer kept (λ e. omega (arith, e))
+          top = double_holds g base tree n inode has after 0 some_pointer is_preserved (λ e. omega (arith, e))
 
           inner : (i : ℕ) → i < INDIRECT_INDEXES
               → numbers_in after (get_or inners i 0) ≡ numbers_in was (get_or inners i 0)
-          inner i less = inner_holds g base tree n inode has after 0 some_pointer kept i less (λ e. omega (arith, e))
+          inner i less = inner_holds g base tree n inode has after 0 some_pointer is_preserved i less (λ e. omega (arith, e))
 
-          named_far : numbers_of after far_new ≡ set all index b
-          named_far =
-              indirect_set was after inode far_new (direct_count g base tree n inode has) index b past within refl
-              in_far
+          named_indirect : numbers_of after indirect_new ≡ set all index b
+          named_indirect =
+              indirect_set was after inode indirect_new (direct_count g base tree n inode has) index b past within refl
+              in_indirect
               (same_doubled after was inode.double inode.double
               (λ i less. ap (λ l. numbers_in after (get_or l i 0)) top ∙ inner i less))
 
-          pointers_far : pointer_blocks after far_new ≡ set pointers 0 far
+          pointers_indirect : pointer_blocks after indirect_new ≡ set pointers 0 indirect_block
           unfolding pointer_blocks
-          pointers_far = λ i. far ∷ inode.double ∷ top i
+          pointers_indirect = λ i. indirect_block ∷ inode.double ∷ top i
 
-          used_far : list_all (is_used_pointer after) (pointer_blocks after far_new) ≡ true
-          used_far = pass_pointers after far_new (is_used_pointer after)
-              (or_right (nat_eq far 0)
-              (ap (list_any is_some) in_far
-              ∙ any_behind is_some (numbers_in was inode.indirect) place 0 b (omega arith)
-              (let less = far_low in let many = in_length was inode.indirect in omega (arith, less, many)) b_is_some))
+          used_indirect : list_all (is_used_pointer after) (pointer_blocks after indirect_new) ≡ true
+          used_indirect = pass_pointers after indirect_new (is_used_pointer after)
+              (or_right (nat_eq indirect_block 0)
+              (ap (list_any is_some) in_indirect
+              ∙ any_behind is_some (numbers_in was inode.indirect) index_within 0 b (omega arith)
+              (let less = indirect_low in let many = in_length was inode.indirect in omega (arith, less, many)) b_is_some))
               (ap (λ l. nat_eq inode.double 0 || list_any is_some l) top ∙ (pointers_used g base tree n inode has).1)
               (ap (list_all (is_used_pointer after)) top
-              ∙ used_alike was after inners (each_place (λ number. numbers_in after number ≡ numbers_in was number)
+              ∙ used_alike was after inners (each_index_within (λ number. numbers_in after number ≡ numbers_in was number)
               inners
               (λ i less. let many = in_length was inode.double in inner i (omega (arith, less, many))))
               ∙ (pointers_used g base tree n inode has).2)
 
-        module _ (some_far : nat_eq inode.indirect 0 ≡ false) where
-          abbrev pub far_block : List ℕ
-          far_block = spliced (was inode.indirect) (4 * place) (four_bytes b)
+        module _ (some_indirect : nat_eq inode.indirect 0 ≡ false) where
+          abbrev pub indirect_bytes : List ℕ
+          indirect_bytes = spliced (was inode.indirect) (4 * index_within) (four_bytes b)
 
-          abbrev after_far : Image
-          after_far = put (put was inode.indirect far_block) b block
+          abbrev after_indirect : Image
+          after_indirect = put (put was inode.indirect indirect_bytes) b block
 
-          far_has : after_far inode.indirect ≡ far_block
-          far_has = put_else (put was inode.indirect far_block) b block inode.indirect
-              (not_new inode.indirect (own_far g base tree n inode has some_far))
-              ∙ put_here was inode.indirect far_block
+          indirect_has : after_indirect inode.indirect ≡ indirect_bytes
+          indirect_has = put_else (put was inode.indirect indirect_bytes) b block inode.indirect
+              (not_new inode.indirect (own_indirect g base tree n inode has some_indirect))
+              ∙ put_here was inode.indirect indirect_bytes
 
-          in_far : numbers_in after_far inode.indirect ≡ set (numbers_in was inode.indirect) place b
-          in_far =
-              some_in after_far inode.indirect some_far
-              ∙ ap (numbers_at INDIRECT_INDEXES 0) far_has
-              ∙ far_set (was inode.indirect) place b (long_content g base tree n inode has inode.indirect) far_low
+          in_indirect : numbers_in after_indirect inode.indirect ≡ set (numbers_in was inode.indirect) index_within b
+          in_indirect =
+              some_in after_indirect inode.indirect some_indirect
+              ∙ ap (numbers_at INDIRECT_INDEXES 0) indirect_has
+              ∙ pointer_set (was inode.indirect) index_within b (long_content g base tree n inode has inode.indirect) indirect_low
               (data_fits g base tree n inode has b free.lies)
-              ∙ ap (λ l. set l place b) (sym (some_in was inode.indirect some_far))
+              ∙ ap (λ l. set l index_within b) (sym (some_in was inode.indirect some_indirect))
 
-          kept_far : (q : ℕ) → 1 ≤ times q own → (q ≡ get_or pointers 0 0 → ⊥) → after_far q ≡ was q
-          kept_far q some_q other =
-              put_else (put was inode.indirect far_block) b block q (not_new q some_q)
-              ∙ put_else was inode.indirect far_block q (λ same.
-              other (same ∙ sym (far_at_first g base tree n inode has)))
+          preserved_indirect : (q : ℕ) → 1 ≤ times q own → (q ≡ get_or pointers 0 0 → ⊥) → after_indirect q ≡ was q
+          preserved_indirect q some_q other =
+              put_else (put was inode.indirect indirect_bytes) b block q (not_new q some_q)
+              ∙ put_else was inode.indirect indirect_bytes q (λ same.
+              other (same ∙ sym (indirect_at_first g base tree n inode has)))
 
-          pointers_kept_far : pointer_blocks after_far (mapping inode size inode.direct inode.indirect inode.double)
+          pointers_preserved_indirect : pointer_blocks after_indirect (mapping inode size inode.direct inode.indirect inode.double)
               ≡ pointers
-          pointers_kept_far = pointers_far after_far inode.indirect kept_far in_far
-              ∙ ap (set pointers 0) (sym (far_at_first g base tree n inode has)) ∙ set-get_or pointers 0 0
+          pointers_preserved_indirect = pointers_indirect after_indirect inode.indirect preserved_indirect in_indirect
+              ∙ ap (set pointers 0) (sym (indirect_at_first g base tree n inode has)) ∙ set-get_or pointers 0 0
 
-          pub block_named_far : Fills g base inode offset piece b inode.direct inode.indirect inode.double after_far
+          pub block_named_indirect : Fills g base inode offset piece b inode.direct inode.indirect inode.double after_indirect
               (b ∷ [])
-          block_named_far = record {
-            now = named_far after_far inode.indirect kept_far in_far;
+          block_named_indirect = record {
+            now = named_indirect after_indirect inode.indirect preserved_indirect in_indirect;
             lies = free.lies;
-            here = put_here (put was inode.indirect far_block) b block ∙ block_is;
+            here = put_here (put was inode.indirect indirect_bytes) b block ∙ block_is;
             others = λ j less other some_j.
-                put_else (put was inode.indirect far_block) b block (get_or all j 0)
+                put_else (put was inode.indirect indirect_bytes) b block (get_or all j 0)
                 (not_new (get_or all j 0) (own_number g base tree n inode has j less some_j))
-                ∙ put_else was inode.indirect far_block (get_or all j 0) (λ same.
+                ∙ put_else was inode.indirect indirect_bytes (get_or all j 0) (λ same.
                 not_pointer g base tree n inode has 0 j some_pointer less some_j
-                (far_at_first g base tree n inode has ∙ sym same));
-            used = used_far after_far inode.indirect kept_far in_far;
+                (indirect_at_first g base tree n inode has ∙ sym same));
+            used = used_indirect after_indirect inode.indirect preserved_indirect in_indirect;
             count = direct_count g base tree n inode has;
             fit = direct_fits g base tree n inode has;
             placed = (placed g base tree n inode has).0;
-            far_fits = (sound g base tree n inode has).fits.indirect;
+            indirect_fits = (sound g base tree n inode has).fits.indirect;
             double_fits = (sound g base tree n inode has).fits.double;
-            pointers_placed = ap (list_all test) pointers_kept_far ∙ has.mapped.pointers;
+            pointers_placed = ap (list_all test) pointers_preserved_indirect ∙ has.mapped.pointers;
             has_double = (placed g base tree n inode has).3;
             outside = λ q not_own new.
-                put_else (put was inode.indirect far_block) b block q (not_first q b [] new)
-                ∙ put_else was inode.indirect far_block q (λ same.
-                let some_q = own_far g base tree n inode has some_far in
+                put_else (put was inode.indirect indirect_bytes) b block q (not_first q b [] new)
+                ∙ put_else was inode.indirect indirect_bytes q (λ same.
+                let some_q = own_indirect g base tree n inode has some_indirect in
                 let no = ap (λ k. times k own) same in absurd (omega (arith, some_q, no, not_own)));
-            counted = λ q. ap (λ l. times q (some (l ++ set all index b))) pointers_kept_far
-                ∙ one_behind q b pointers all index b_is_some low none ∙ ap (λ k. k + times q own) (sym (alone q b));
+            counted = λ q. ap (λ l. times q (some (l ++ set all index b))) pointers_preserved_indirect
+                ∙ one_behind q b pointers all index b_is_some low none ∙ ap (λ k. k + times q own) (sym (times_one q b));
             were_free = (free, tt);
             once = one_gained;
           }
 
         -- ---- by a new one
 
-        module _ (no_far : nat_eq inode.indirect 0 ≡ true) (far : ℕ) (far_free : IsFreeBlock g base far)
-            (apart : (q : ℕ) → times q (far ∷ b ∷ []) ≤ 1) where
+        module _ (no_indirect : nat_eq inode.indirect 0 ≡ true) (indirect_block : ℕ) (indirect_free : IsFreeBlock g base indirect_block)
+            (apart : (q : ℕ) → times q (indirect_block ∷ b ∷ []) ≤ 1) where
           abbrev pub first_block : List ℕ
-          first_block = spliced (replicate BLOCK_BYTES 0) (4 * place) (four_bytes b)
+          first_block = spliced (replicate BLOCK_BYTES 0) (4 * index_within) (four_bytes b)
 
           abbrev after_first : Image
-          after_first = put (put was far first_block) b block
+          after_first = put (put was indirect_block first_block) b block
 
-          both : (q : ℕ) → times q (far ∷ b ∷ []) ≡ cond (nat_eq far q) 1 0 + times q (b ∷ [])
-          both q = one_first q far (b ∷ [])
+          both : (q : ℕ) → times q (indirect_block ∷ b ∷ []) ≡ cond (nat_eq indirect_block q) 1 0 + times q (b ∷ [])
+          both q = one_first q indirect_block (b ∷ [])
 
-          far_not_b : far ≡ b → ⊥
-          far_not_b same =
+          indirect_not_b : indirect_block ≡ b → ⊥
+          indirect_not_b same =
               let two = both b in
-              let one = ap {B = ℕ} (λ (t : Bool). cond t 1 0) (eq-eqb far b same) in
-              let other = alone b b in
+              let one = ap {B = ℕ} (λ (t : Bool). cond t 1 0) (eq-eqb indirect_block b same) in
+              let other = times_one b b in
               let also = one_if_same b in
               let most = apart b in absurd (omega (arith, two, one, other, also, most))
 
-          first_has : after_first far ≡ first_block
-          first_has = put_else (put was far first_block) b block far far_not_b ∙ put_here was far first_block
+          first_has : after_first indirect_block ≡ first_block
+          first_has = put_else (put was indirect_block first_block) b block indirect_block indirect_not_b ∙ put_here was indirect_block first_block
 
-          in_first : numbers_in after_first far ≡ set (numbers_in was inode.indirect) place b
+          in_first : numbers_in after_first indirect_block ≡ set (numbers_in was inode.indirect) index_within b
           in_first =
-              some_in after_first far (not_zero g far far_free.lies)
+              some_in after_first indirect_block (not_zero g indirect_block indirect_free.lies)
               ∙ ap (numbers_at INDIRECT_INDEXES 0) first_has
-              ∙ far_set (replicate BLOCK_BYTES 0) place b refl far_low (data_fits g base tree n inode has b free.lies)
-              ∙ ap (λ l. set l place b) (far_none was inode.indirect no_far)
+              ∙ pointer_set (replicate BLOCK_BYTES 0) index_within b refl indirect_low (data_fits g base tree n inode has b free.lies)
+              ∙ ap (λ l. set l index_within b) (pointer_none was inode.indirect no_indirect)
 
-          not_far : (q : ℕ) → 1 ≤ times q own → q ≡ far → ⊥
-          not_far = free_not_own g base tree n inode has far far_free
+          not_indirect : (q : ℕ) → 1 ≤ times q own → q ≡ indirect_block → ⊥
+          not_indirect = free_not_own g base tree n inode has indirect_block indirect_free
 
-          kept_first : (q : ℕ) → 1 ≤ times q own → (q ≡ get_or pointers 0 0 → ⊥) → after_first q ≡ was q
-          kept_first q some_q other =
-              put_else (put was far first_block) b block q (not_new q some_q)
-              ∙ put_else was far first_block q (not_far q some_q)
+          preserved_first : (q : ℕ) → 1 ≤ times q own → (q ≡ get_or pointers 0 0 → ⊥) → after_first q ≡ was q
+          preserved_first q some_q other =
+              put_else (put was indirect_block first_block) b block q (not_new q some_q)
+              ∙ put_else was indirect_block first_block q (not_indirect q some_q)
 
-          pub block_named_first : Fills g base inode offset piece b inode.direct far inode.double after_first
-              (far ∷ b ∷ [])
+          pub block_named_first : Fills g base inode offset piece b inode.direct indirect_block inode.double after_first
+              (indirect_block ∷ b ∷ [])
           block_named_first = record {
-            now = named_far after_first far kept_first in_first;
+            now = named_indirect after_first indirect_block preserved_first in_first;
             lies = free.lies;
-            here = put_here (put was far first_block) b block ∙ block_is;
+            here = put_here (put was indirect_block first_block) b block ∙ block_is;
             others = λ j less other some_j.
-                put_else (put was far first_block) b block (get_or all j 0)
+                put_else (put was indirect_block first_block) b block (get_or all j 0)
                 (not_new (get_or all j 0) (own_number g base tree n inode has j less some_j))
-                ∙ put_else was far first_block (get_or all j 0)
-                (not_far (get_or all j 0) (own_number g base tree n inode has j less some_j));
-            used = used_far after_first far kept_first in_first;
+                ∙ put_else was indirect_block first_block (get_or all j 0)
+                (not_indirect (get_or all j 0) (own_number g base tree n inode has j less some_j));
+            used = used_indirect after_first indirect_block preserved_first in_first;
             count = direct_count g base tree n inode has;
             fit = direct_fits g base tree n inode has;
             placed = (placed g base tree n inode has).0;
-            far_fits = data_fits g base tree n inode has far far_free.lies;
+            indirect_fits = data_fits g base tree n inode has indirect_block indirect_free.lies;
             double_fits = (sound g base tree n inode has).fits.double;
-            pointers_placed = ap (list_all test) (pointers_far after_first far kept_first in_first)
-                ∙ all_still test pointers 0 far has.mapped.pointers (or_data g far far_free.lies);
+            pointers_placed = ap (list_all test) (pointers_indirect after_first indirect_block preserved_first in_first)
+                ∙ all_still test pointers 0 indirect_block has.mapped.pointers (or_data g indirect_block indirect_free.lies);
             has_double = (placed g base tree n inode has).3;
             outside = λ q not_own new.
-                put_else (put was far first_block) b block q (not_first q b [] (not_behind q far (b ∷ []) new))
-                ∙ put_else was far first_block q (not_first q far (b ∷ []) new);
+                put_else (put was indirect_block first_block) b block q (not_first q b [] (not_behind q indirect_block (b ∷ []) new))
+                ∙ put_else was indirect_block first_block q (not_first q indirect_block (b ∷ []) new);
             counted = λ q.
-                let here = ap (λ l. times q (some (l ++ set all index b))) (pointers_far after_first far kept_first
+                let here = ap (λ l. times q (some (l ++ set all index b))) (pointers_indirect after_first indirect_block preserved_first
                 in_first)
                 in
-                let one = one_behind q b (set pointers 0 far) all index b_is_some low none in
-                let two = one_ahead q far pointers all 0 (ap not (not_zero g far far_free.lies)) some_pointer
-                (ap (λ k. nat_eq k 0) (far_at_first g base tree n inode has) ∙ no_far) in
+                let one = one_behind q b (set pointers 0 indirect_block) all index b_is_some low none in
+                let two = one_ahead q indirect_block pointers all 0 (ap not (not_zero g indirect_block indirect_free.lies)) some_pointer
+                (ap (λ k. nat_eq k 0) (indirect_at_first g base tree n inode has) ∙ no_indirect) in
                 let three = both q in
-                let four = alone q b in omega (arith, here, one, two, three, four);
-            were_free = (far_free, (free, tt));
+                let four = times_one q b in omega (arith, here, one, two, three, four);
+            were_free = (indirect_free, (free, tt));
             once = apart;
           }

@@ -19,8 +19,8 @@ use Rattle.layout.specs.declared.geometry.Geometry.{Geometry}
 use Rattle.layout.specs.declared.inode.Inode.{Inode}
 use Rattle.layout.specs.Decode.{body_of, doubled_in, mapped_of, numbers_in, numbers_of}
 use Rattle.layout.specs.Parts.{content_in}
-use Rattle.layout.proofs.FileNumbers.{inner_part, middle, past_near}
-use Rattle.layout.proofs.Mapped.{mapped-between, mapped-far}
+use Rattle.layout.proofs.FileNumbers.{inner_part, middle, past_indirect}
+use Rattle.layout.proofs.Mapped.{mapped-between, mapped-indirect_block}
 use Rattle.layout.proofs.NumbersIn.{left_any, no_double_left, none_at, none_some}
 use Rattle.inode.specs.Shown.{body_in}
 use Rattle.inode_data.specs.Filling.{HasRegular, IsPiece}
@@ -114,26 +114,26 @@ module _ (g : Geometry) (base : Image) (tree : Tree) (n : ℕ) (inode : Inode)
       let one = before in
       let two = after in
       let long = one_longer in
-      let far = indirect_more in
+      let indirect_block = indirect_more in
       let double = double_more in
       let inner = inner_more less more (still_in less index) INDIRECT_INDEXES in
-      omega (arith, one, two, long, far, double, inner)
+      omega (arith, one, two, long, indirect_block, double, inner)
 
   -- the indirect block too
   pub first_adds : DIRECT_INDEXES ≤ index → index < FIRST_DOUBLE_INDEX → nat_eq inode.indirect 0 ≡ true
       → 2 ≤ new_cost - body_cost
-  first_adds past within no_far =
+  first_adds past within no_indirect =
       let one = before in
       let two = after in
       let long = one_longer in
       let was : ◌≡◌ {A = ℕ} (cond (list_any is_indirect (items less)) 1 0) 0 =
       ap (λ t. cond t 1 0) (mapped-between DIRECT_INDEXES FIRST_DOUBLE_INDEX INDIRECT_INDEXES numbers (omega arith)
-      ∙ ap (list_any is_some) (middle content inode direct) ∙ none_some content inode.indirect no_far) in
-      let far = one_now is_indirect (λ i. le-leb DIRECT_INDEXES index past i && lt-ltb index FIRST_DOUBLE_INDEX within
+      ∙ ap (list_any is_some) (middle content inode direct) ∙ none_some content inode.indirect no_indirect) in
+      let indirect_block = one_now is_indirect (λ i. le-leb DIRECT_INDEXES index past i && lt-ltb index FIRST_DOUBLE_INDEX within
       i) in
       let double = double_more in
       let inner = inner_more less more (still_in less index) INDIRECT_INDEXES in
-      omega (arith, one, two, long, was, far, double, inner)
+      omega (arith, one, two, long, was, indirect_block, double, inner)
 
   module _ (past : FIRST_DOUBLE_INDEX ≤ index) where
     abbrev row : ℕ
@@ -167,10 +167,10 @@ module _ (g : Geometry) (base : Image) (tree : Tree) (n : ℕ) (inode : Inode)
         let one = before in
         let two = after in
         let long = one_longer in
-        let far = indirect_more in
+        let indirect_block = indirect_more in
         let double = double_more in
         let inner = inner_one no_inner in
-        omega (arith, one, two, long, far, double, inner)
+        omega (arith, one, two, long, indirect_block, double, inner)
 
     -- and the double indirect block
     pub double_adds : nat_eq inode.double 0 ≡ true → 3 ≤ new_cost - body_cost
@@ -178,11 +178,11 @@ module _ (g : Geometry) (base : Image) (tree : Tree) (n : ℕ) (inode : Inode)
         let one = before in
         let two = after in
         let long = one_longer in
-        let far = indirect_more in
+        let indirect_block = indirect_more in
         let was : ◌≡◌ {A = ℕ} (cond (list_any is_double (items less)) 1 0) 0 =
-        ap (λ t. cond t 1 0) (mapped-far FIRST_DOUBLE_INDEX numbers
-        ∙ ap (list_any is_some) (past_near content inode direct)
+        ap (λ t. cond t 1 0) (mapped-indirect_block FIRST_DOUBLE_INDEX numbers
+        ∙ ap (list_any is_some) (past_indirect content inode direct)
         ∙ left_any (doubled_in content inode.double) (no_double_left content inode.double no_double)) in
         let double = one_now is_double (le-leb FIRST_DOUBLE_INDEX index past) in
         let inner = inner_one (ap (λ k. nat_eq k 0) (none_at content inode.double no_double row)) in
-        omega (arith, one, two, long, far, was, double, inner)
+        omega (arith, one, two, long, indirect_block, was, double, inner)

@@ -23,16 +23,16 @@ use Rattle.layout.proofs.ChangedNumbers.{double_set}
 use Rattle.layout.proofs.FileNumbers.{pass_pointers}
 use Rattle.layout.proofs.NumbersIn.{in_length, some_in}
 use Rattle.layout.proofs.Used.{all_at}
-use Rattle.inode.proofs.DraftsLemmas.Marks.{times}
+use Rattle.inode.proofs.WriteSetsLemmas.Marks.{times}
 use Rattle.bitmap.specs.NewBlock.{IsFreeBlock}
 use Rattle.inode_data.specs.Filling.{Fills, HasMapped, IsPiece, grown_size, mapping}
-use Rattle.inode_data.specs.Inner.{inner_of, place_of}
+use Rattle.inode_data.specs.Inner.{inner_of, index_in_inner}
 use Rattle.inode_data.proofs.Cases.{piece_low}
-use Rattle.inode_data.proofs.FarNumbers.{far_none, far_set}
+use Rattle.inode_data.proofs.PointerNumbers.{pointer_none, pointer_set}
 use Rattle.inode_data.proofs.OneNumber.{all_still, any_behind, is_some, some}
 use Rattle.inode_data.proofs.MappedFile.{content, count, long_content, numbers, sound}
-use Rattle.inode_data.proofs.Owned.{alone, data_fits, direct_count, direct_fits, double_at_second, double_holds}
-use Rattle.inode_data.proofs.Owned.{far_holds, free_not_own, inner_behind, inner_holds, many_pointers, not_behind}
+use Rattle.inode_data.proofs.Owned.{times_one, data_fits, direct_count, direct_fits, double_at_second, double_holds}
+use Rattle.inode_data.proofs.Owned.{indirect_holds, free_not_own, inner_behind, inner_holds, many_pointers, not_behind}
 use Rattle.inode_data.proofs.Owned.{not_first, not_pointer, one_ahead, one_behind, one_first, one_if_same, or_right}
 use Rattle.inode_data.proofs.Owned.{pass_each}
 use Rattle.inode_data.proofs.Owned.{own_double, own_inner, own_number, placed, pointers_used, put_else, put_here}
@@ -40,10 +40,10 @@ use Rattle.inode_data.proofs.Owned.{two_set}
 use Rattle.inode_data.proofs.PieceWritten.{not_zero, or_data}
 
 -- where an index lies that the double indirect block reaches
-pub place_there : (index : ℕ) → FIRST_DOUBLE_INDEX ≤ index → index < FILE_INDEXES
-    → (inner_of index < INDIRECT_INDEXES) × (place_of index < INDIRECT_INDEXES)
-    × (FIRST_DOUBLE_INDEX + (inner_of index * INDIRECT_INDEXES + place_of index) ≡ index)
-place_there index past within = (omega (arith, past, within), omega arith, omega (arith, past))
+pub inner_and_index : (index : ℕ) → FIRST_DOUBLE_INDEX ≤ index → index < FILE_INDEXES
+    → (inner_of index < INDIRECT_INDEXES) × (index_in_inner index < INDIRECT_INDEXES)
+    × (FIRST_DOUBLE_INDEX + (inner_of index * INDIRECT_INDEXES + index_in_inner index) ≡ index)
+inner_and_index index past within = (omega (arith, past, within), omega arith, omega (arith, past))
 
 -- two blocks of which none is there twice are two
 pub two_blocks : (a b : ℕ) (rest : List ℕ) → ((q : ℕ) → times q (a ∷ b ∷ rest) ≤ 1) → a ≡ b → ⊥
@@ -63,7 +63,7 @@ first_and_third a b c once same =
     let one = ap {B = ℕ} (λ (t : Bool). cond t 1 0) (eq-eqb a c same) in
     let all = one_first c a (b ∷ c ∷ []) in
     let more = one_first c b (c ∷ []) in
-    let last = alone c c in
+    let last = times_one c c in
     let also = one_if_same c in
     let most = once c in absurd (omega (arith, one, all, more, last, also, most))
 
@@ -98,7 +98,7 @@ module _ (g : Geometry) (base : Image) (tree : Tree) (n : ℕ) (inode : Inode) (
   row = inner_of index
 
   abbrev column : ℕ
-  column = place_of index
+  column = index_in_inner index
 
   abbrev here : ℕ
   here = get_or inners row 0
@@ -117,7 +117,7 @@ module _ (g : Geometry) (base : Image) (tree : Tree) (n : ℕ) (inode : Inode) (
 
     there : (row < INDIRECT_INDEXES) × (column < INDIRECT_INDEXES)
         × (FIRST_DOUBLE_INDEX + (row * INDIRECT_INDEXES + column) ≡ index)
-    there = place_there index past (let less = low in let many = count g base tree n inode has in omega (
+    there = inner_and_index index past (let less = low in let many = count g base tree n inode has in omega (
       arith,
       less,
       many,
@@ -129,12 +129,12 @@ module _ (g : Geometry) (base : Image) (tree : Tree) (n : ℕ) (inode : Inode) (
     second_low : 1 < length pointers
     second_low = let long = many_pointers g base tree n inode has in omega (arith, long)
 
-    place_low : 2 + row < length pointers
-    place_low = let long = many_pointers g base tree n inode has in let less = there.0 in omega (arith, long, less)
+    index_is_low : 2 + row < length pointers
+    index_is_low = let long = many_pointers g base tree n inode has in let less = there.0 in omega (arith, long, less)
 
     -- whatever inner block names it
     module _ (after : Image) (double x : ℕ) (x_some : is_some x ≡ true)
-        (far : numbers_in after inode.indirect ≡ numbers_in was inode.indirect)
+        (indirect_block : numbers_in after inode.indirect ≡ numbers_in was inode.indirect)
         (top : numbers_in after double ≡ set inners row x)
         (inner : numbers_in after x ≡ set (numbers_in was here) column b)
         (rest : (i : ℕ) → i < INDIRECT_INDEXES → (i ≡ row → ⊥)
@@ -144,7 +144,7 @@ module _ (g : Geometry) (base : Image) (tree : Tree) (n : ℕ) (inode : Inode) (
 
       named_inner : numbers_of after new ≡ set all index b
       named_inner =
-          double_set was after inode new (direct_count g base tree n inode has) row column b there.0 there.1 refl far
+          double_set was after inode new (direct_count g base tree n inode has) row column b there.0 there.1 refl indirect_block
           (λ i less other. ap (λ l. numbers_in after (get_or l i 0)) top
           ∙ ap (numbers_in after) (get_or-set_other inners row i x 0 other) ∙ rest i less other)
           (ap (λ l. numbers_in after (get_or l row 0)) top
@@ -183,7 +183,7 @@ module _ (g : Geometry) (base : Image) (tree : Tree) (n : ℕ) (inode : Inode) (
 
       used_inner : list_all (is_used_pointer after) (pointer_blocks after new) ≡ true
       used_inner = pass_pointers after new (is_used_pointer after)
-          (ap (λ l. nat_eq inode.indirect 0 || list_any is_some l) far ∙ (pointers_used g base tree n inode has).0)
+          (ap (λ l. nat_eq inode.indirect 0 || list_any is_some l) indirect_block ∙ (pointers_used g base tree n inode has).0)
           (or_right (nat_eq double 0)
           (ap (list_any is_some) top ∙ any_behind is_some inners row 0 x (omega arith) row_low x_some))
           (ap (list_all (is_used_pointer after)) top ∙ pass_each (is_used_pointer after) (set inners row x) used_at)
@@ -197,21 +197,21 @@ module _ (g : Geometry) (base : Image) (tree : Tree) (n : ℕ) (inode : Inode) (
       abbrev pub after_inner : Image
       after_inner = put (put was x inner_block) b block
 
-      x_place : get_or pointers (2 + row) 0 ≡ x
-      x_place = inner_behind g base tree n inode has row ∙ sym x_is
+      inner_at_index : get_or pointers (2 + row) 0 ≡ x
+      inner_at_index = inner_behind g base tree n inode has row ∙ sym x_is
 
       own_x : 1 ≤ times x own
       own_x = subst (λ k. 1 ≤ times k own) (sym x_is)
           (own_inner g base tree n inode has row there.0 (ap (λ k. nat_eq k 0) (sym x_is) ∙ x_some))
 
-      kept_inner : (q : ℕ) → 1 ≤ times q own → (q ≡ get_or pointers (2 + row) 0 → ⊥) → after_inner q ≡ was q
-      kept_inner q some_q other =
+      preserved_inner : (q : ℕ) → 1 ≤ times q own → (q ≡ get_or pointers (2 + row) 0 → ⊥) → after_inner q ≡ was q
+      preserved_inner q some_q other =
           put_else (put was x inner_block) b block q (not_new q some_q)
-          ∙ put_else was x inner_block q (λ same. other (same ∙ sym x_place))
+          ∙ put_else was x inner_block q (λ same. other (same ∙ sym inner_at_index))
 
       top_there : numbers_in after_inner inode.double ≡ set inners row x
       top_there =
-          double_holds g base tree n inode has after_inner (2 + row) place_low kept_inner (λ e. omega (arith, e))
+          double_holds g base tree n inode has after_inner (2 + row) index_is_low preserved_inner (λ e. omega (arith, e))
           ∙ sym (ap (set inners row) x_is ∙ set-get_or inners row 0)
 
       inner_there : numbers_in after_inner x ≡ set (numbers_in was here) column b
@@ -219,43 +219,43 @@ module _ (g : Geometry) (base : Image) (tree : Tree) (n : ℕ) (inode : Inode) (
           some_in after_inner x x_some
           ∙ ap (numbers_at INDIRECT_INDEXES 0)
           (put_else (put was x inner_block) b block x (not_new x own_x) ∙ put_here was x inner_block)
-          ∙ far_set (was x) column b (long_content g base tree n inode has x) there.1
+          ∙ pointer_set (was x) column b (long_content g base tree n inode has x) there.1
           (data_fits g base tree n inode has b free.lies)
           ∙ ap (λ l. set l column b) (sym (some_in was x x_some) ∙ ap (numbers_in was) x_is)
 
-      far_there : numbers_in after_inner inode.indirect ≡ numbers_in was inode.indirect
-      far_there = far_holds g base tree n inode has after_inner (2 + row) place_low kept_inner (λ e. omega (arith, e))
+      indirect_there : numbers_in after_inner inode.indirect ≡ numbers_in was inode.indirect
+      indirect_there = indirect_holds g base tree n inode has after_inner (2 + row) index_is_low preserved_inner (λ e. omega (arith, e))
 
       rest_there : (i : ℕ) → i < INDIRECT_INDEXES → (i ≡ row → ⊥)
           → numbers_in after_inner (get_or inners i 0) ≡ numbers_in was (get_or inners i 0)
       rest_there i less other =
-          inner_holds g base tree n inode has after_inner (2 + row) place_low kept_inner i less
+          inner_holds g base tree n inode has after_inner (2 + row) index_is_low preserved_inner i less
           (λ e. other (omega (arith, e)))
 
       pointers_still : pointer_blocks after_inner (mapping inode size inode.direct inode.indirect inode.double) ≡
           pointers
       pointers_still =
-          pointers_inner after_inner inode.double x (ap not x_some) far_there top_there inner_there rest_there
+          pointers_inner after_inner inode.double x (ap not x_some) indirect_there top_there inner_there rest_there
           ∙ ap (λ l. set l (2 + row) x)
           (ap (set pointers 1) (sym (double_at_second g base tree n inode has)) ∙ set-get_or pointers 1 0)
-          ∙ ap (set pointers (2 + row)) (sym x_place) ∙ set-get_or pointers (2 + row) 0
+          ∙ ap (set pointers (2 + row)) (sym inner_at_index) ∙ set-get_or pointers (2 + row) 0
 
       pub block_named_inner : Fills g base inode offset piece b inode.direct inode.indirect inode.double after_inner
           (b ∷ [])
       block_named_inner = record {
-        now = named_inner after_inner inode.double x (ap not x_some) far_there top_there inner_there rest_there;
+        now = named_inner after_inner inode.double x (ap not x_some) indirect_there top_there inner_there rest_there;
         lies = free.lies;
         here = put_here (put was x inner_block) b block ∙ block_is;
         others = λ j less other some_j.
             put_else (put was x inner_block) b block (get_or all j 0)
             (not_new (get_or all j 0) (own_number g base tree n inode has j less some_j))
             ∙ put_else was x inner_block (get_or all j 0) (λ same.
-            not_pointer g base tree n inode has (2 + row) j place_low less some_j (x_place ∙ sym same));
-        used = used_inner after_inner inode.double x (ap not x_some) far_there top_there inner_there rest_there;
+            not_pointer g base tree n inode has (2 + row) j index_is_low less some_j (inner_at_index ∙ sym same));
+        used = used_inner after_inner inode.double x (ap not x_some) indirect_there top_there inner_there rest_there;
         count = direct_count g base tree n inode has;
         fit = direct_fits g base tree n inode has;
         placed = (placed g base tree n inode has).0;
-        far_fits = (sound g base tree n inode has).fits.indirect;
+        indirect_fits = (sound g base tree n inode has).fits.indirect;
         double_fits = (sound g base tree n inode has).fits.double;
         pointers_placed = ap (list_all test) pointers_still ∙ has.mapped.pointers;
         has_double = (placed g base tree n inode has).3;
@@ -265,14 +265,14 @@ module _ (g : Geometry) (base : Image) (tree : Tree) (n : ℕ) (inode : Inode) (
             let some_q = own_x in
             let no = ap (λ k. times k own) same in absurd (omega (arith, some_q, no, not_own)));
         counted = λ q. ap (λ l. times q (some (l ++ set all index b))) pointers_still
-            ∙ one_behind q b pointers all index b_is_some low none ∙ ap (λ k. k + times q own) (sym (alone q b));
+            ∙ one_behind q b pointers all index b_is_some low none ∙ ap (λ k. k + times q own) (sym (times_one q b));
         were_free = (free, tt);
-        once = λ q. one_alone (nat_eq b q) (alone q b);
+        once = λ q. once_at_most (nat_eq b q) (times_one q b);
       }
         where
-          one_alone : (t : Bool) → {k : ℕ} → k ≡ cond t 1 0 → k ≤ 1
-          one_alone true e = omega (arith, e)
-          one_alone false e = omega (arith, e)
+          once_at_most : (t : Bool) → {k : ℕ} → k ≡ cond t 1 0 → k ≤ 1
+          once_at_most true e = omega (arith, e)
+          once_at_most false e = omega (arith, e)
 
     -- ---- a new inner block
 
@@ -292,19 +292,19 @@ module _ (g : Geometry) (base : Image) (tree : Tree) (n : ℕ) (inode : Inode) (
       first_named after is =
           some_in after x (not_zero g x x_free.lies)
           ∙ ap (numbers_at INDIRECT_INDEXES 0) is
-          ∙ far_set (replicate BLOCK_BYTES 0) column b refl there.1 (data_fits g base tree n inode has b free.lies)
-          ∙ ap (λ l. set l column b) (far_none was here no_inner)
+          ∙ pointer_set (replicate BLOCK_BYTES 0) column b refl there.1 (data_fits g base tree n inode has b free.lies)
+          ∙ ap (λ l. set l column b) (pointer_none was here no_inner)
 
       -- no pointer block is at its place
-      place_free : (double : ℕ) → nat_eq (get_or (set pointers 1 double) (2 + row) 0) 0 ≡ true
-      place_free double =
+      index_is_free : (double : ℕ) → nat_eq (get_or (set pointers 1 double) (2 + row) 0) 0 ≡ true
+      index_is_free double =
           ap (λ k. nat_eq k 0)
           (get_or-set_other pointers 1 (2 + row) double 0 (λ e. omega (arith, e))
           ∙ inner_behind g base tree n inode has row)
           ∙ no_inner
 
-      place_still : (double : ℕ) → 2 + row < length (set pointers 1 double)
-      place_still double = let long = length-set pointers 1 double in let less = place_low in omega (arith, long, less)
+      index_is_within : (double : ℕ) → 2 + row < length (set pointers 1 double)
+      index_is_within double = let long = length-set pointers 1 double in let less = index_is_low in omega (arith, long, less)
 
       -- -- below the double indirect block
 
@@ -315,8 +315,8 @@ module _ (g : Geometry) (base : Image) (tree : Tree) (n : ℕ) (inode : Inode) (
         abbrev pub after_first_inner : Image
         after_first_inner = put (put (put was inode.double double_block) x first_inner_block) b block
 
-        kept_double : (q : ℕ) → 1 ≤ times q own → (q ≡ get_or pointers 1 0 → ⊥) → after_first_inner q ≡ was q
-        kept_double q some_q other =
+        preserved_double : (q : ℕ) → 1 ≤ times q own → (q ≡ get_or pointers 1 0 → ⊥) → after_first_inner q ≡ was q
+        preserved_double q some_q other =
             put_else (put (put was inode.double double_block) x first_inner_block) b block q (not_new q some_q)
             ∙ put_else (put was inode.double double_block) x first_inner_block q (not_x q some_q)
             ∙ put_else was inode.double double_block q (λ same.
@@ -342,17 +342,17 @@ module _ (g : Geometry) (base : Image) (tree : Tree) (n : ℕ) (inode : Inode) (
         top_first =
             some_in after_first_inner inode.double some_double
             ∙ ap (numbers_at INDIRECT_INDEXES 0) double_has
-            ∙ far_set (was inode.double) row x (long_content g base tree n inode has inode.double) there.0
+            ∙ pointer_set (was inode.double) row x (long_content g base tree n inode has inode.double) there.0
             (data_fits g base tree n inode has x x_free.lies)
             ∙ ap (λ l. set l row x) (sym (some_in was inode.double some_double))
 
-        far_first : numbers_in after_first_inner inode.indirect ≡ numbers_in was inode.indirect
-        far_first = far_holds g base tree n inode has after_first_inner 1 second_low kept_double (λ e. omega (arith, e))
+        indirect_first : numbers_in after_first_inner inode.indirect ≡ numbers_in was inode.indirect
+        indirect_first = indirect_holds g base tree n inode has after_first_inner 1 second_low preserved_double (λ e. omega (arith, e))
 
         rest_first : (i : ℕ) → i < INDIRECT_INDEXES → (i ≡ row → ⊥)
             → numbers_in after_first_inner (get_or inners i 0) ≡ numbers_in was (get_or inners i 0)
         rest_first i less other =
-            inner_holds g base tree n inode has after_first_inner 1 second_low kept_double i less (λ e. omega (
+            inner_holds g base tree n inode has after_first_inner 1 second_low preserved_double i less (λ e. omega (
               arith,
               e,
             ))
@@ -363,7 +363,7 @@ module _ (g : Geometry) (base : Image) (tree : Tree) (n : ℕ) (inode : Inode) (
         pointers_first : pointer_blocks after_first_inner (mapping inode size inode.direct inode.indirect inode.double)
             ≡ set (set pointers 1 inode.double) (2 + row) x
         pointers_first =
-            pointers_inner after_first_inner inode.double x x_is_some far_first top_first inner_first rest_first
+            pointers_inner after_first_inner inode.double x x_is_some indirect_first top_first inner_first rest_first
 
         double_still : set pointers 1 inode.double ≡ pointers
         double_still = ap (set pointers 1) (sym (double_at_second g base tree n inode has)) ∙ set-get_or pointers 1 0
@@ -371,18 +371,18 @@ module _ (g : Geometry) (base : Image) (tree : Tree) (n : ℕ) (inode : Inode) (
         pub block_named_first_inner : Fills g base inode offset piece b inode.direct inode.indirect inode.double
             after_first_inner (x ∷ b ∷ [])
         block_named_first_inner = record {
-          now = named_inner after_first_inner inode.double x x_is_some far_first top_first inner_first rest_first;
+          now = named_inner after_first_inner inode.double x x_is_some indirect_first top_first inner_first rest_first;
           lies = free.lies;
           here = put_here (put (put was inode.double double_block) x first_inner_block) b block ∙ block_is;
           others = λ j less other some_j.
               let some_q = own_number g base tree n inode has j less some_j in
-              kept_double (get_or all j 0) some_q (λ same.
+              preserved_double (get_or all j 0) some_q (λ same.
               not_pointer g base tree n inode has 1 j second_low less some_j (sym same));
-          used = used_inner after_first_inner inode.double x x_is_some far_first top_first inner_first rest_first;
+          used = used_inner after_first_inner inode.double x x_is_some indirect_first top_first inner_first rest_first;
           count = direct_count g base tree n inode has;
           fit = direct_fits g base tree n inode has;
           placed = (placed g base tree n inode has).0;
-          far_fits = (sound g base tree n inode has).fits.indirect;
+          indirect_fits = (sound g base tree n inode has).fits.indirect;
           double_fits = (sound g base tree n inode has).fits.double;
           pointers_placed = ap (list_all test) pointers_first
               ∙ all_still test (set pointers 1 inode.double) (2 + row) x
@@ -398,11 +398,11 @@ module _ (g : Geometry) (base : Image) (tree : Tree) (n : ℕ) (inode : Inode) (
           counted = λ q.
               let now = ap (λ l. times q (some (l ++ set all index b))) pointers_first in
               let one = one_behind q b (set (set pointers 1 inode.double) (2 + row) x) all index b_is_some low none in
-              let two = one_ahead q x (set pointers 1 inode.double) all (2 + row) x_is_some (place_still inode.double)
-              (place_free inode.double) in
+              let two = one_ahead q x (set pointers 1 inode.double) all (2 + row) x_is_some (index_is_within inode.double)
+              (index_is_free inode.double) in
               let still = ap (λ l. times q (some (l ++ all))) double_still in
               let three = one_first q x (b ∷ []) in
-              let four = alone q b in omega (arith, now, one, two, still, three, four);
+              let four = times_one q b in omega (arith, now, one, two, still, three, four);
           were_free = (x_free, (free, tt));
           once = apart;
         }
@@ -417,8 +417,8 @@ module _ (g : Geometry) (base : Image) (tree : Tree) (n : ℕ) (inode : Inode) (
         abbrev pub after_double : Image
         after_double = put (put (put was double first_double_block) x first_inner_block) b block
 
-        kept_own : (q : ℕ) → 1 ≤ times q own → (q ≡ get_or pointers 1 0 → ⊥) → after_double q ≡ was q
-        kept_own q some_q other =
+        preserved_own : (q : ℕ) → 1 ≤ times q own → (q ≡ get_or pointers 1 0 → ⊥) → after_double q ≡ was q
+        preserved_own q some_q other =
             put_else (put (put was double first_double_block) x first_inner_block) b block q (not_new q some_q)
             ∙ put_else (put was double first_double_block) x first_inner_block q (not_x q some_q)
             ∙ put_else was double first_double_block q (free_not_own g base tree n inode has double double_free q
@@ -442,38 +442,38 @@ module _ (g : Geometry) (base : Image) (tree : Tree) (n : ℕ) (inode : Inode) (
         top_new =
             some_in after_double double (not_zero g double double_free.lies)
             ∙ ap (numbers_at INDIRECT_INDEXES 0) new_has
-            ∙ far_set (replicate BLOCK_BYTES 0) row x refl there.0 (data_fits g base tree n inode has x x_free.lies)
-            ∙ ap (λ l. set l row x) (far_none was inode.double no_double)
+            ∙ pointer_set (replicate BLOCK_BYTES 0) row x refl there.0 (data_fits g base tree n inode has x x_free.lies)
+            ∙ ap (λ l. set l row x) (pointer_none was inode.double no_double)
 
-        far_new : numbers_in after_double inode.indirect ≡ numbers_in was inode.indirect
-        far_new = far_holds g base tree n inode has after_double 1 second_low kept_own (λ e. omega (arith, e))
+        indirect_new : numbers_in after_double inode.indirect ≡ numbers_in was inode.indirect
+        indirect_new = indirect_holds g base tree n inode has after_double 1 second_low preserved_own (λ e. omega (arith, e))
 
         rest_new : (i : ℕ) → i < INDIRECT_INDEXES → (i ≡ row → ⊥)
             → numbers_in after_double (get_or inners i 0) ≡ numbers_in was (get_or inners i 0)
         rest_new i less other =
-            inner_holds g base tree n inode has after_double 1 second_low kept_own i less (λ e. omega (arith, e))
+            inner_holds g base tree n inode has after_double 1 second_low preserved_own i less (λ e. omega (arith, e))
 
         inner_new : numbers_in after_double x ≡ set (numbers_in was here) column b
         inner_new = first_named after_double x_there
 
         pointers_new : pointer_blocks after_double (mapping inode size inode.direct inode.indirect double)
             ≡ set (set pointers 1 double) (2 + row) x
-        pointers_new = pointers_inner after_double double x x_is_some far_new top_new inner_new rest_new
+        pointers_new = pointers_inner after_double double x x_is_some indirect_new top_new inner_new rest_new
 
         pub block_named_double : Fills g base inode offset piece b inode.direct inode.indirect double after_double
             (double ∷ x ∷ b ∷ [])
         block_named_double = record {
-          now = named_inner after_double double x x_is_some far_new top_new inner_new rest_new;
+          now = named_inner after_double double x x_is_some indirect_new top_new inner_new rest_new;
           lies = free.lies;
           here = put_here (put (put was double first_double_block) x first_inner_block) b block ∙ block_is;
           others = λ j less other some_j.
-              kept_own (get_or all j 0) (own_number g base tree n inode has j less some_j) (λ same.
+              preserved_own (get_or all j 0) (own_number g base tree n inode has j less some_j) (λ same.
               not_pointer g base tree n inode has 1 j second_low less some_j (sym same));
-          used = used_inner after_double double x x_is_some far_new top_new inner_new rest_new;
+          used = used_inner after_double double x x_is_some indirect_new top_new inner_new rest_new;
           count = direct_count g base tree n inode has;
           fit = direct_fits g base tree n inode has;
           placed = (placed g base tree n inode has).0;
-          far_fits = (sound g base tree n inode has).fits.indirect;
+          indirect_fits = (sound g base tree n inode has).fits.indirect;
           double_fits = data_fits g base tree n inode has double double_free.lies;
           pointers_placed = ap (list_all test) pointers_new
               ∙ all_still test (set pointers 1 double) (2 + row) x
@@ -489,13 +489,13 @@ module _ (g : Geometry) (base : Image) (tree : Tree) (n : ℕ) (inode : Inode) (
           counted = λ q.
               let now = ap (λ l. times q (some (l ++ set all index b))) pointers_new in
               let one = one_behind q b (set (set pointers 1 double) (2 + row) x) all index b_is_some low none in
-              let two = one_ahead q x (set pointers 1 double) all (2 + row) x_is_some (place_still double)
-              (place_free double) in
+              let two = one_ahead q x (set pointers 1 double) all (2 + row) x_is_some (index_is_within double)
+              (index_is_free double) in
               let three = one_ahead q double pointers all 1 (ap not (not_zero g double double_free.lies)) second_low
               (ap (λ k. nat_eq k 0) (double_at_second g base tree n inode has) ∙ no_double) in
               let four = one_first q double (x ∷ b ∷ []) in
               let five = one_first q x (b ∷ []) in
-              let six = alone q b in omega (arith, now, one, two, three, four, five, six);
+              let six = times_one q b in omega (arith, now, one, two, three, four, five, six);
           were_free = (double_free, (x_free, (free, tt)));
           once = apart;
         }

@@ -21,7 +21,7 @@ use Rattle.layout.specs.Fields.{count_of}
 use Rattle.layout.specs.Parts.{content_in}
 use Rattle.layout.proofs.Mapped.{inner_numbers, regular-cost}
 use Rattle.layout.proofs.NumbersIn.{in_length}
-use Rattle.layout.proofs.Used.{double_any, far_any, inner_any, inner_count}
+use Rattle.layout.proofs.Used.{double_any, any_indirect, inner_any, inner_count}
 use Rattle.inode_data.specs.Adding.{filled_up, missing_between, new_indirect, new_inner, some_number}
 use Rattle.inode_data.specs.Filling.{HasRegular}
 use Rattle.inode_data.specs.Inner.{inner_of}
@@ -94,19 +94,19 @@ mapped_up numbers first (suc k) within =
 -- each of them has a number
 pub filled_at : (numbers : List ℕ) (first k j : ℕ) → first + k ≤ length numbers → first ≤ j → j < first + k
     → is_some (get_or (filled_up numbers first k) j 0) ≡ true
-filled_at numbers first zero j room from to = absurd (omega (arith, from, to))
-filled_at numbers first (suc k) j room from to =
+filled_at numbers first zero j has_space from to = absurd (omega (arith, from, to))
+filled_at numbers first (suc k) j has_space from to =
     let so_far = filled_up numbers first k in
     let number = some_number (get_or so_far (first + k) 0) in
     let long = filled-length numbers first k in
     elim (cases_eq j (first + k)) [
       | inl same ↦
           ap (λ q. is_some (get_or (set so_far (first + k) number) q 0)) same
-          ∙ ap is_some (get_or-set_same so_far (first + k) number 0 (omega (arith, long, room)))
+          ∙ ap is_some (get_or-set_same so_far (first + k) number 0 (omega (arith, long, has_space)))
           ∙ some_is (get_or so_far (first + k) 0)
       | inr other ↦
           ap is_some (get_or-set_other so_far (first + k) j number 0 other)
-          ∙ filled_at numbers first k j (omega (arith, room)) from (before j to other)
+          ∙ filled_at numbers first k j (omega (arith, has_space)) from (before j to other)
     ]
   where
     before : (j : ℕ) → j < first + suc k → (j ≡ first + k → ⊥) → j < first + k
@@ -166,12 +166,12 @@ pub first_part : (xs : List ℕ) (a lo m : ℕ) → lo + m ≤ length xs → (f 
     → ((k : ℕ) → k < length xs → (lo ≤ k → k < lo + m → ⊥) → f (a + k) ≡ is_some (get_or xs k 0))
     → count_by f (range_with_len a (length xs))
     ≡ count_by is_some xs + count_by (λ n. nat_eq n 0) (take m (drop lo xs))
-first_part [] a lo zero room f inside outside = by_place lo
+first_part [] a lo zero has_space f inside outside = by_index_within lo
   where
-    by_place : (lo : ℕ) → 0 ≡ 0 + count_by (λ n. nat_eq n 0) (take 0 (drop lo []))
-    by_place lo = refl
-first_part [] a lo (suc m) room f inside outside = absurd (omega (arith, room))
-first_part (x ∷ xs) a zero zero room f inside outside =
+    by_index_within : (lo : ℕ) → 0 ≡ 0 + count_by (λ n. nat_eq n 0) (take 0 (drop lo []))
+    by_index_within lo = refl
+first_part [] a lo (suc m) has_space f inside outside = absurd (omega (arith, has_space))
+first_part (x ∷ xs) a zero zero has_space f inside outside =
     let all = sum_by-cons (λ i. cond (f i) 1 0) a (range_with_len (a + 1) (length xs)) in
     let here : ◌≡◌ {A = ℕ} (cond (f a) 1 0) (cond (is_some x) 1 0) =
     ap (λ t. cond t 1 0) (ap f (omega arith) ∙ outside 0 (omega arith) (λ from to. omega (arith, to))) in
@@ -180,14 +180,14 @@ first_part (x ∷ xs) a zero zero room f inside outside =
     (λ k less from to. absurd (omega (arith, to)))
     (λ k less out. ap f (omega arith) ∙ outside (suc k) (omega (arith, less)) (λ from to. omega (arith, to))) in
     omega (arith, all, here, was, rest)
-first_part (x ∷ xs) a zero (suc m) room f inside outside =
+first_part (x ∷ xs) a zero (suc m) has_space f inside outside =
     let all = sum_by-cons (λ i. cond (f i) 1 0) a (range_with_len (a + 1) (length xs)) in
     let here : ◌≡◌ {A = ℕ} (cond (f a) 1 0) 1 =
     ap (λ t. cond t 1 0) (ap f (omega arith) ∙ inside 0 (omega arith) (omega arith) (omega arith)) in
     let was = sum_by-cons (λ y. cond (is_some y) 1 0) x xs in
     let none = sum_by-cons (λ y. cond (nat_eq y 0) 1 0) x (take m xs) in
     let either = one_or (nat_eq x 0) in
-    let rest = first_part xs (a + 1) zero m (omega (arith, room)) f
+    let rest = first_part xs (a + 1) zero m (omega (arith, has_space)) f
     (λ k less from to. ap f (omega arith)
     ∙ inside (suc k) (omega (arith, less)) (omega arith) (omega (arith, to)))
     (λ k less out. ap f (omega arith)
@@ -197,12 +197,12 @@ first_part (x ∷ xs) a zero (suc m) room f inside outside =
     one_or : (t : Bool) → cond (not t) 1 0 + cond t 1 0 ≡ 1
     one_or true = refl
     one_or false = refl
-first_part (x ∷ xs) a (suc lo) m room f inside outside =
+first_part (x ∷ xs) a (suc lo) m has_space f inside outside =
     let all = sum_by-cons (λ i. cond (f i) 1 0) a (range_with_len (a + 1) (length xs)) in
     let here : ◌≡◌ {A = ℕ} (cond (f a) 1 0) (cond (is_some x) 1 0) =
     ap (λ t. cond t 1 0) (ap f (omega arith) ∙ outside 0 (omega arith) (λ from to. omega (arith, from))) in
     let was = sum_by-cons (λ y. cond (is_some y) 1 0) x xs in
-    let rest = first_part xs (a + 1) lo m (omega (arith, room)) f
+    let rest = first_part xs (a + 1) lo m (omega (arith, has_space)) f
     (λ k less from to. ap f (omega arith)
     ∙ inside (suc k) (omega (arith, less)) (omega (arith, from)) (omega (arith, to)))
     (λ k less out. ap f (omega arith)
@@ -236,19 +236,19 @@ from_none : (k : ℕ) → 0 + k ≡ k
 from_none k = omega arith
 
 -- the sums of what a file holds: its numbers, the indirect block, the double indirect block, and inner blocks
-near_sum : (missing indirect was now far far_now double double_now inner inner_now after before : ℕ)
-    → missing + was ≡ now → far_now ≡ far + indirect → double_now ≡ double → inner_now ≡ inner
-    → after ≡ now + far_now + double_now + inner_now → before ≡ was + far + double + inner
+direct_sum : (missing indirect was now indirect_block indirect_now double double_now inner inner_now after before : ℕ)
+    → missing + was ≡ now → indirect_now ≡ indirect_block + indirect → double_now ≡ double → inner_now ≡ inner
+    → after ≡ now + indirect_now + double_now + inner_now → before ≡ was + indirect_block + double + inner
     → missing + indirect ≡ after - before
-near_sum missing indirect was now far far_now double double_now inner inner_now after before one two three four five
+direct_sum missing indirect was now indirect_block indirect_now double double_now inner inner_now after before one two three four five
     six =
     omega (arith, one, two, three, four, five, six)
 
-far_sum : (missing indirect first rows was now far far_now double double_now inner inner_now after before : ℕ)
-    → missing + was ≡ now → far_now ≡ far + indirect → double_now ≡ double + first → inner_now ≡ inner + rows
-    → after ≡ now + far_now + double_now + inner_now → before ≡ was + far + double + inner
+indirect_sum : (missing indirect first rows was now indirect_block indirect_now double double_now inner inner_now after before : ℕ)
+    → missing + was ≡ now → indirect_now ≡ indirect_block + indirect → double_now ≡ double + first → inner_now ≡ inner + rows
+    → after ≡ now + indirect_now + double_now + inner_now → before ≡ was + indirect_block + double + inner
     → missing + (indirect + (first + rows)) ≡ after - before
-far_sum missing indirect first rows was now far far_now double double_now inner inner_now after before one two three
+indirect_sum missing indirect first rows was now indirect_block indirect_now double double_now inner inner_now after before one two three
     four five
     six = omega (arith, one, two, three, four, five, six)
 
@@ -308,53 +308,53 @@ module _ (g : Geometry) (base : Image) (tree : Tree) (n : ℕ) (inode : Inode)
 
   -- ---- the indirect block
 
-  far_was : indirect_in numbers ≡ is_some inode.indirect
-  far_was = far_any g content inode direct mapped
+  indirect_was : indirect_in numbers ≡ is_some inode.indirect
+  indirect_was = any_indirect g content inode direct mapped
 
-  far_hit : (j : ℕ) → first ≤ j → j ≤ last → DIRECT_INDEXES ≤ j → j < FIRST_DOUBLE_INDEX
+  indirect_hit : (j : ℕ) → first ≤ j → j ≤ last → DIRECT_INDEXES ≤ j → j < FIRST_DOUBLE_INDEX
       → indirect_in filled ≡ true
-  far_hit j from to past low =
+  indirect_hit j from to past low =
       let many = all_long in
       any_there filled DIRECT_INDEXES INDIRECT_INDEXES j (omega (arith, many, to, within)) past (omega (arith, low))
       (some_at j from to)
 
-  far_by : (a b : Bool) → nat_lt first FIRST_DOUBLE_INDEX ≡ a → nat_le DIRECT_INDEXES last ≡ b
+  indirect_by : (a b : Bool) → nat_lt first FIRST_DOUBLE_INDEX ≡ a → nat_le DIRECT_INDEXES last ≡ b
       → one_if (indirect_in filled)
       ≡ one_if (is_some inode.indirect) + cond (nat_eq inode.indirect 0 && a && b) 1 0
-  far_by true true e f =
+  indirect_by true true e f =
       let low = ltb-true first FIRST_DOUBLE_INDEX e in
       let past = leb-true DIRECT_INDEXES last f in
       ap one_if (elim (cases_lt first DIRECT_INDEXES) [
-        | inl early ↦ far_hit DIRECT_INDEXES (omega (arith, early)) past (omega arith) (omega arith)
-        | inr late ↦ far_hit first (omega arith) order late low
+        | inl early ↦ indirect_hit DIRECT_INDEXES (omega (arith, early)) past (omega arith) (omega arith)
+        | inr late ↦ indirect_hit first (omega arith) order late low
       ]) ∙ by (nat_eq inode.indirect 0)
     where
       by : (t : Bool) → 1 ≡ cond (not t) 1 0 + cond (t && true && true) 1 0
       by true = refl
       by false = refl
-  far_by true false e f =
+  indirect_by true false e f =
       let early = leb-false DIRECT_INDEXES last f in
       ap (λ l. one_if (list_any is_some (take INDIRECT_INDEXES l)))
       (behind_filled numbers first count_up DIRECT_INDEXES (omega (arith, early, order)))
-      ∙ ap one_if far_was ∙ no_more (nat_eq inode.indirect 0) (one_if (is_some inode.indirect))
+      ∙ ap one_if indirect_was ∙ no_more (nat_eq inode.indirect 0) (one_if (is_some inode.indirect))
     where
       no_more : (t : Bool) (k : ℕ) → k ≡ k + cond (t && true && false) 1 0
       no_more true k = omega arith
       no_more false k = omega arith
-  far_by false b e f =
+  indirect_by false b e f =
       let late = ltb-false first FIRST_DOUBLE_INDEX e in
       ap (λ l. one_if (list_any is_some l))
       (ahead_filled numbers first count_up DIRECT_INDEXES INDIRECT_INDEXES (omega (arith, late)))
-      ∙ ap one_if far_was ∙ no_more (nat_eq inode.indirect 0) (one_if (is_some inode.indirect))
+      ∙ ap one_if indirect_was ∙ no_more (nat_eq inode.indirect 0) (one_if (is_some inode.indirect))
     where
       no_more : (t : Bool) (k : ℕ) → k ≡ k + cond (t && false && b) 1 0
       no_more true k = omega arith
       no_more false k = omega arith
 
-  far_now : one_if (indirect_in filled) ≡ one_if (indirect_in numbers) + new_indirect inode first last
-  far_now =
-      far_by (nat_lt first FIRST_DOUBLE_INDEX) (nat_le DIRECT_INDEXES last) refl refl
-      ∙ ap (λ k. one_if k + new_indirect inode first last) (sym far_was)
+  indirect_now : one_if (indirect_in filled) ≡ one_if (indirect_in numbers) + new_indirect inode first last
+  indirect_now =
+      indirect_by (nat_lt first FIRST_DOUBLE_INDEX) (nat_le DIRECT_INDEXES last) refl refl
+      ∙ ap (λ k. one_if k + new_indirect inode first last) (sym indirect_was)
 
   -- ---- in front of the double indirect block they add no more
 
@@ -370,12 +370,12 @@ module _ (g : Geometry) (base : Image) (tree : Tree) (n : ℕ) (inode : Inode)
           order,
         )))
 
-    pub near_added : missing + count_of numbers ≡ count_of filled
+    pub direct_added : missing + count_of numbers ≡ count_of filled
         → missing + new_indirect inode first last ≡ after - before
-    near_added sum =
-        near_sum missing (new_indirect inode first last) (count_of numbers) (count_of filled)
+    direct_added sum =
+        direct_sum missing (new_indirect inode first last) (count_of numbers) (count_of filled)
         (one_if (indirect_in numbers)) (one_if (indirect_in filled)) (one_if (double_in numbers))
-        (one_if (double_in filled)) (inner_in numbers) (inner_in filled) after before sum far_now
+        (one_if (double_in filled)) (inner_in numbers) (inner_in filled) after before sum indirect_now
         (ap {B = ℕ} (λ l. one_if (list_any is_some l)) double_same)
         (λ i. count_by (λ k. list_any is_some (inner_same k i)) (range_with_len 0 INDIRECT_INDEXES)) after_is before_is
 
@@ -466,7 +466,7 @@ module _ (g : Geometry) (base : Image) (tree : Tree) (n : ℕ) (inode : Inode)
     pub double_added : missing + count_of numbers ≡ count_of filled
         → missing + (new_indirect inode first last + new_inner content inode first last) ≡ after - before
     double_added sum =
-        far_sum missing (new_indirect inode first last) (cond (nat_eq inode.double 0) 1 0)
+        indirect_sum missing (new_indirect inode first last) (cond (nat_eq inode.double 0) 1 0)
         (missing_between inners lo rows) (count_of numbers) (count_of filled) (one_if (indirect_in numbers))
         (one_if (indirect_in filled)) (one_if (double_in numbers)) (one_if (double_in filled)) (inner_in numbers)
-        (inner_in filled) after before sum far_now double_now inner_now after_is before_is
+        (inner_in filled) after before sum indirect_now double_now inner_now after_is before_is

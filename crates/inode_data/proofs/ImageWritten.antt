@@ -16,8 +16,8 @@ use Rattle.layout.proofs.OnGrid.{data_within}
 use Rattle.layout.proofs.Spelled.{read_back, written-length}
 use Rattle.layout.proofs.Written.{parts_written}
 use Rattle.layout.proofs.WrittenBytes.{inode_are}
-use Rattle.inode.proofs.DraftsLemmas.OneFile.{IsBlock, blocks_still}
-use Rattle.inode.proofs.DraftsLemmas.OtherWrites.{data_written}
+use Rattle.inode.proofs.WriteSetsLemmas.OneFile.{IsBlock, blocks_still}
+use Rattle.inode.proofs.WriteSetsLemmas.OtherWrites.{data_written}
 
 -- a whole block that is put takes the place of what was there
 whole_spliced : (old new : List ℕ) → length old ≡ length new → spliced old 0 new ≡ new
@@ -41,14 +41,14 @@ module _ (g : Geometry) (blocks : Image) (b : ℕ) (bytes : List ℕ) (are : Are
             (whole_spliced (blocks b) bytes ((are b within.1).0 ∙ sym long) i);
       })
 
-  pub blocks_kept : AreBytes bytes → AreBlocks g (with_bytes blocks b 0 bytes)
-  blocks_kept bytes_are = blocks_still blocks b 0 bytes g.blocks are (record { are = bytes_are })
+  pub blocks_preserved : AreBytes bytes → AreBlocks g (with_bytes blocks b 0 bytes)
+  blocks_preserved bytes_are = blocks_still blocks b 0 bytes g.blocks are (record { are = bytes_are })
       (omega (arith, long))
 
 module _ (g : Geometry) (blocks : Image) (n : ℕ) (inode : Inode) (are : AreBlocks g blocks) (less : n < g.inodes)
     (sound : SoundInode g inode) where
   on_disk : inode_block g n < g.blocks
-  on_disk = let room = g.lawful.1.3 in let whole = g.lawful.1.2 in omega (arith, room, less, whole)
+  on_disk = let has_space = g.lawful.1.3 in let whole = g.lawful.1.2 in omega (arith, has_space, less, whole)
 
   size : length (inode_bytes inode) ≡ INODE_BYTES
   size = written-length inode sound.fits
@@ -58,6 +58,6 @@ module _ (g : Geometry) (blocks : Image) (n : ℕ) (inode : Inode) (are : AreBlo
   inode_parts = parts_written g blocks n (inode_bytes inode) (Some inode) g.lawful.1.2 less
       (are (inode_block g n) on_disk).0 size (read_back inode sound.fits g sound.good)
 
-  pub inode_kept : AreBlocks g (with_inode g blocks n inode)
-  inode_kept = blocks_still blocks (inode_block g n) (inode_offset n) (inode_bytes inode) g.blocks are
+  pub inode_preserved : AreBlocks g (with_inode g blocks n inode)
+  inode_preserved = blocks_still blocks (inode_block g n) (inode_offset n) (inode_bytes inode) g.blocks are
       (inode_are inode sound.fits) (let long = size in omega (arith, long))

@@ -1,6 +1,6 @@
 pub mod OverBytes
 pub mod OneNumber
-pub mod FarNumbers
+pub mod PointerNumbers
 pub mod PieceWritten
 pub mod Owned
 pub mod Cases

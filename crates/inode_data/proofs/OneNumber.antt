@@ -13,7 +13,7 @@ use Rattle.std.proofs.lemmas.List.Sums.{sum_by-cons}
 use Rattle.nfs_spec.proofs.ModelLemmas.Sets.{itself}
 use Rattle.layout.specs.Decode.{mapped_of}
 use Rattle.layout.proofs.FreshFiles.{not_equal}
-use Rattle.inode.proofs.DraftsLemmas.Marks.{times}
+use Rattle.inode.proofs.WriteSetsLemmas.Marks.{times}
 use Rattle.inode.proofs.AllTests.{all_two}
 
 abbrev pub is_some : ℕ → Bool
@@ -117,14 +117,14 @@ mapped_more numbers index b less is = same_set nat_cmp_total nat_cmp-IsAntisymme
           ∙ ap is_some (get_or-set_same numbers index b 0 less) ∙ is
           ∙ sym (ap (λ t. t || contains (mapped_of numbers) q) (ap (eq_by_cmp nat_cmp q) (sym same) ∙ itself q))
       | inr other ↦
-          by_place q other
+          by_index_within q other
           ∙ sym (ap (λ t. t || contains (mapped_of numbers) q)
           (not_equal q index other (eq_by_cmp nat_cmp q index) refl))
     ]
       where
-        by_place : (q : ℕ) → (q ≡ index → ⊥)
+        by_index_within : (q : ℕ) → (q ≡ index → ⊥)
             → contains (mapped_of (set numbers index b)) q ≡ contains (mapped_of numbers) q
-        by_place q other = elim (cases_lt q (length numbers)) [
+        by_index_within q other = elim (cases_lt q (length numbers)) [
           | inl low ↦ is_mapped (set numbers index b) q (let count = long in omega (arith, count, low))
               ∙ ap is_some (get_or-set_other numbers index q b 0 other) ∙ sym (is_mapped numbers q low)
           | inr past ↦ none_mapped (set numbers index b) q (let count = long in omega (arith, count, past))
@@ -137,19 +137,19 @@ one_first : (b x : ℕ) (xs : List ℕ) → times b (x ∷ xs) ≡ cond (nat_eq 
 one_first b x xs = sum_by-cons (λ one. cond (nat_eq one b) 1 0) x xs
 
 -- a number in front, which is a block's or none
-pub in_front : (q x : ℕ) (xs : List ℕ) → is_some x ≡ true
+pub in_leading : (q x : ℕ) (xs : List ℕ) → is_some x ≡ true
     → times q (some (x ∷ xs)) ≡ cond (nat_eq x q) 1 0 + times q (some xs)
-in_front q x xs is = ap (λ t. times q (cond t (x ∷ some xs) (some xs))) is ∙ one_first q x (some xs)
+in_leading q x xs is = ap (λ t. times q (cond t (x ∷ some xs) (some xs))) is ∙ one_first q x (some xs)
 
-pub none_in_front : (q x : ℕ) (xs : List ℕ) → nat_eq x 0 ≡ true → times q (some (x ∷ xs)) ≡ times q (some xs)
-none_in_front q x xs is = ap (λ t. times q (cond (not t) (x ∷ some xs) (some xs))) is
+pub none_in_leading : (q x : ℕ) (xs : List ℕ) → nat_eq x 0 ≡ true → times q (some (x ∷ xs)) ≡ times q (some xs)
+none_in_leading q x xs is = ap (λ t. times q (cond (not t) (x ∷ some xs) (some xs))) is
 
 pub once_more : (q b : ℕ) (numbers : List ℕ) (index : ℕ) → index < length numbers → is_some b ≡ true
     → nat_eq (get_or numbers index 0) 0 ≡ true
     → times q (some (set numbers index b)) ≡ cond (nat_eq b q) 1 0 + times q (some numbers)
 once_more q b [] index less is none = absurd (omega (arith, less))
 once_more q b (x ∷ xs) zero less is none =
-    in_front q b xs is ∙ ap (λ k. cond (nat_eq b q) 1 0 + k) (sym (none_in_front q x xs none))
+    in_leading q b xs is ∙ ap (λ k. cond (nat_eq b q) 1 0 + k) (sym (none_in_leading q x xs none))
 once_more q b (x ∷ xs) (suc index) less is none = by_first (is_some x) refl
     (once_more q b xs index (omega (arith, less)) is none)
   where

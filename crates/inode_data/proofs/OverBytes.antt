@@ -11,16 +11,16 @@ use Rattle.base.specs.declared.TheConstants.{BLOCK_BYTES}
 use Rattle.objects.specs.Spliced.{spliced}
 use Rattle.layout.specs.Fields.{is_zeros}
 use Rattle.nfs_spec.specs.Procedures.Write.{overwritten}
-use Rattle.nfs_spec.proofs.ProceduresLemmas.Overwriting.{kept_before, kept_behind, length_overwritten, written_at}
+use Rattle.nfs_spec.proofs.ProceduresLemmas.Overwriting.{preserved_before, preserved_behind, length_overwritten, written_at}
 use Rattle.inode.proofs.AllTests.{all_two, same_number}
 
 -- ---- lists with some items written over, and others before or behind
 
 pub spliced_first : (xs ys piece : List ℕ) (at : ℕ) → at + length piece ≤ length xs
     → spliced (xs ++ ys) at piece ≡ spliced xs at piece ++ ys
-spliced_first xs ys piece at room =
-    (λ i. take-append-le at xs ys (omega (arith, room)) i ++ piece
-    ++ drop-append-le (at + length piece) xs ys room i)
+spliced_first xs ys piece at has_space =
+    (λ i. take-append-le at xs ys (omega (arith, has_space)) i ++ piece
+    ++ drop-append-le (at + length piece) xs ys has_space i)
     ∙ sym (append_assoc (take at xs ++ piece) (drop (at + length piece) xs) ys)
 
 pub spliced_behind : (xs ys piece : List ℕ) (at : ℕ)
@@ -47,17 +47,17 @@ module _ (f h : ℕ → List ℕ) where
       → ((j : ℕ) → j < length numbers → (j ≡ index → ⊥) → h (get_or numbers j 0) ≡ f (get_or numbers j 0))
       → h b ≡ spliced (f (get_or numbers index 0)) at piece
       → flat_map h (set numbers index b) ≡ spliced (flat_map f numbers) (BLOCK_BYTES * index + at) piece
-  one_block [] index b at piece less long room others here = absurd (omega (arith, less))
-  one_block (n ∷ numbers) zero b at piece less long room others here =
+  one_block [] index b at piece less long has_space others here = absurd (omega (arith, less))
+  one_block (n ∷ numbers) zero b at piece less long has_space others here =
       let all = long n in
       (λ i. here i ++ same_bytes numbers (λ j low. others (suc j) (omega (arith, low)) (λ is. omega (arith, is))) i)
-      ∙ sym (spliced_first (f n) (flat_map f numbers) piece at (omega (arith, all, room)))
+      ∙ sym (spliced_first (f n) (flat_map f numbers) piece at (omega (arith, all, has_space)))
       ∙ ap (λ k. spliced (f n ++ flat_map f numbers) k piece) (omega arith)
-  one_block (n ∷ numbers) (suc index) b at piece less long room others here =
+  one_block (n ∷ numbers) (suc index) b at piece less long has_space others here =
       let there : length (f n) + (BLOCK_BYTES * index + at) ≡ BLOCK_BYTES * suc index + at =
       let all = long n in omega (arith, all) in
       (λ i. others 0 (omega arith) (λ is. omega (arith, is)) i
-      ++ one_block numbers index b at piece (omega (arith, less)) long room
+      ++ one_block numbers index b at piece (omega (arith, less)) long has_space
       (λ j low not. others (suc j) (omega (arith, low)) (λ is. not (omega (arith, is)))) here i)
       ∙ sym (spliced_behind (f n) (flat_map f numbers) piece (BLOCK_BYTES * index + at))
       ∙ ap (λ k. spliced (f n ++ flat_map f numbers) k piece) there
@@ -81,7 +81,7 @@ all_behind zero xs zeros = zeros
 all_behind (suc k) [] zeros = refl
 all_behind (suc k) (x ∷ xs) zeros = all_behind k xs (all_two (nat_eq x 0) (is_zeros xs) zeros).1
 
-module _ (all piece : List ℕ) (offset size : ℕ) (room : offset + length piece ≤ length all)
+module _ (all piece : List ℕ) (offset size : ℕ) (has_space : offset + length piece ≤ length all)
     (small : size ≤ length all) (zeros : is_zeros (drop size all) ≡ true) where
   abbrev pub new_size : ℕ
   new_size = max size (offset + length piece)
@@ -105,12 +105,12 @@ module _ (all piece : List ℕ) (offset size : ℕ) (room : offset + length piec
 
   each : (i : ℕ) → get_or (overwritten offset piece all) i 0 ≡ get_or (overwritten offset piece bytes) i 0
   each i = elim (cases_lt i offset) [
-    | inl before ↦ kept_before offset i piece all before ∙ sym (item i)
-        ∙ sym (kept_before offset i piece bytes before)
+    | inl before ↦ preserved_before offset i piece all before ∙ sym (item i)
+        ∙ sym (preserved_before offset i piece bytes before)
     | inr above ↦ (elim (cases_lt i (offset + length piece)) [
       | inl inside ↦ written_at offset i piece all above inside ∙ sym (written_at offset i piece bytes above inside)
-      | inr behind ↦ kept_behind offset i piece all behind ∙ sym (item i)
-          ∙ sym (kept_behind offset i piece bytes behind)
+      | inr behind ↦ preserved_behind offset i piece all behind ∙ sym (item i)
+          ∙ sym (preserved_behind offset i piece bytes behind)
     ])
   ]
 
@@ -120,9 +120,9 @@ module _ (all piece : List ℕ) (offset size : ℕ) (room : offset + length piec
       let part = length_overwritten offset piece bytes in
       let count = short in
       let taken = length-take new_size (overwritten offset piece all) in
-      ap (take new_size) (over_is offset piece all (omega (arith, room)))
+      ap (take new_size) (over_is offset piece all (omega (arith, has_space)))
       ∙ ext_get_or 0 (take new_size (overwritten offset piece all)) (overwritten offset piece bytes)
-      (omega (arith, whole, part, count, taken, room, small))
+      (omega (arith, whole, part, count, taken, has_space, small))
       (λ i inside. get_or-take new_size (overwritten offset piece all) i 0 (omega (arith, inside, taken))
       ∙ each i)
 
@@ -132,10 +132,10 @@ module _ (all piece : List ℕ) (offset size : ℕ) (room : offset + length piec
       let left = length-drop new_size (overwritten offset piece all) in
       let before = length-drop new_size all in
       let there : size + (new_size - size) ≡ new_size = omega arith in
-      ap (λ l. is_zeros (drop new_size l)) (over_is offset piece all (omega (arith, room)))
+      ap (λ l. is_zeros (drop new_size l)) (over_is offset piece all (omega (arith, has_space)))
       ∙ ap is_zeros (ext_get_or 0 (drop new_size (overwritten offset piece all)) (drop new_size all)
-      (omega (arith, whole, left, before, room))
+      (omega (arith, whole, left, before, has_space))
       (λ i inside. get_or-drop new_size (overwritten offset piece all) i 0
-      ∙ kept_behind offset (new_size + i) piece all (omega arith) ∙ sym (get_or-drop new_size all i 0)))
+      ∙ preserved_behind offset (new_size + i) piece all (omega arith) ∙ sym (get_or-drop new_size all i 0)))
       ∙ ap is_zeros (ap (λ k. drop k all) (sym there) ∙ sym (drop-drop (new_size - size) size all))
       ∙ all_behind (new_size - size) (drop size all) zeros

@@ -25,7 +25,7 @@ use Rattle.layout.proofs.NumbersIn.{in_length, same_in}
 use Rattle.layout.proofs.OnGrid.{data_within}
 use Rattle.layout.proofs.Pieces.{set-append_add}
 use Rattle.layout.proofs.Written.{not_same}
-use Rattle.inode.proofs.DraftsLemmas.Marks.{times}
+use Rattle.inode.proofs.WriteSetsLemmas.Marks.{times}
 use Rattle.bitmap.specs.NewBlock.{IsFreeBlock}
 use Rattle.bitmap.proofs.Gained.{own_part}
 use Rattle.inode_data.specs.Filling.{HasMapped}
@@ -100,8 +100,8 @@ two_set a b i x l = ap (λ k. set (a ∷ b ∷ l) k x) (two_more i)
 pub one_first : (q x : ℕ) (xs : List ℕ) → times q (x ∷ xs) ≡ cond (nat_eq x q) 1 0 + times q xs
 one_first q x xs = sum_by-cons (λ one. cond (nat_eq one q) 1 0) x xs
 
-pub alone : (q b : ℕ) → times q (b ∷ []) ≡ cond (nat_eq b q) 1 0
-alone q b = let all = one_first q b [] in omega (arith, all)
+pub times_one : (q b : ℕ) → times q (b ∷ []) ≡ cond (nat_eq b q) 1 0
+times_one q b = let all = one_first q b [] in omega (arith, all)
 
 -- one of a list that has none of it isn't in front
 pub not_first : (q x : ℕ) (xs : List ℕ) → times q (x ∷ xs) ≡ 0 → q ≡ x → ⊥
@@ -114,9 +114,9 @@ pub not_behind : (q x : ℕ) (xs : List ℕ) → times q (x ∷ xs) ≡ 0 → ti
 not_behind q x xs none = let is = one_first q x xs in omega (arith, none, is)
 
 -- what is so of each place of a list
-pub each_place : (P : ℕ → Type 0) (xs : List ℕ) → ((i : ℕ) → i < length xs → P (get_or xs i 0)) → AllByRecursion P xs
-each_place P [] all = tt
-each_place P (x ∷ xs) all = (all 0 (omega arith), each_place P xs (λ i less. all (suc i) (omega (arith, less))))
+pub each_index_within : (P : ℕ → Type 0) (xs : List ℕ) → ((i : ℕ) → i < length xs → P (get_or xs i 0)) → AllByRecursion P xs
+each_index_within P [] all = tt
+each_index_within P (x ∷ xs) all = (all 0 (omega arith), each_index_within P xs (λ i less. all (suc i) (omega (arith, less))))
 
 pub pass_each : (test : ℕ → Bool) (xs : List ℕ) → ((i : ℕ) → i < length xs → test (get_or xs i 0) ≡ true)
     → list_all test xs ≡ true
@@ -241,8 +241,8 @@ module _ (g : Geometry) (base : Image) (tree : Tree) (n : ℕ) (inode : Inode)
       ap (λ (l : List ℕ). length l) (pointers_are was inode) in
       let long = in_length was inode.double in omega (arith, is, long)
 
-  pub far_at_first : get_or pointers 0 0 ≡ inode.indirect
-  far_at_first = ap (λ l. get_or l 0 0) (pointers_are was inode)
+  pub indirect_at_first : get_or pointers 0 0 ≡ inode.indirect
+  indirect_at_first = ap (λ l. get_or l 0 0) (pointers_are was inode)
 
   pub double_at_second : get_or pointers 1 0 ≡ inode.double
   double_at_second = ap (λ l. get_or l 1 0) (pointers_are was inode)
@@ -255,11 +255,11 @@ module _ (g : Geometry) (base : Image) (tree : Tree) (n : ℕ) (inode : Inode)
       × (list_all (is_used_pointer was) inners ≡ true)
   pointers_used = pointers_pass was inode (is_used_pointer was) has.mapped.used
 
-  pub own_far : nat_eq inode.indirect 0 ≡ false → 1 ≤ times inode.indirect own
-  own_far some_far =
+  pub own_indirect : nat_eq inode.indirect 0 ≡ false → 1 ≤ times inode.indirect own
+  own_indirect some_indirect =
       let long = many_pointers in
-      subst (λ q. 1 ≤ times q own) far_at_first
-      (own_pointer 0 (omega (arith, long)) (ap (λ q. nat_eq q 0) far_at_first ∙ some_far))
+      subst (λ q. 1 ≤ times q own) indirect_at_first
+      (own_pointer 0 (omega (arith, long)) (ap (λ q. nat_eq q 0) indirect_at_first ∙ some_indirect))
 
   pub own_double : nat_eq inode.double 0 ≡ false → 1 ≤ times inode.double own
   own_double some_double =
@@ -276,25 +276,25 @@ module _ (g : Geometry) (base : Image) (tree : Tree) (n : ℕ) (inode : Inode)
 
   -- with other blocks: where all that are its own are as they were but for the pointer block at one place, the
   -- others hold what they held
-  module _ (after : Image) (place : ℕ) (low : place < length pointers)
-      (kept : (q : ℕ) → 1 ≤ times q own → (q ≡ get_or pointers place 0 → ⊥) → after q ≡ was q) where
-    pub others_hold : (i : ℕ) → i < length pointers → (i ≡ place → ⊥)
+  module _ (after : Image) (index_within : ℕ) (low : index_within < length pointers)
+      (is_preserved : (q : ℕ) → 1 ≤ times q own → (q ≡ get_or pointers index_within 0 → ⊥) → after q ≡ was q) where
+    pub others_hold : (i : ℕ) → i < length pointers → (i ≡ index_within → ⊥)
         → numbers_in after (get_or pointers i 0) ≡ numbers_in was (get_or pointers i 0)
     others_hold i less other = same_in after was (get_or pointers i 0) (λ some_i.
-        kept (get_or pointers i 0) (own_pointer i less some_i) (λ same.
-        pointers_apart place i (λ e. other (sym e)) low less (sym same) some_i))
+        is_preserved (get_or pointers i 0) (own_pointer i less some_i) (λ same.
+        pointers_apart index_within i (λ e. other (sym e)) low less (sym same) some_i))
 
-    pub far_holds : (0 ≡ place → ⊥) → numbers_in after inode.indirect ≡ numbers_in was inode.indirect
-    far_holds other =
+    pub indirect_holds : (0 ≡ index_within → ⊥) → numbers_in after inode.indirect ≡ numbers_in was inode.indirect
+    indirect_holds other =
         let long = many_pointers in
-        subst (λ q. numbers_in after q ≡ numbers_in was q) far_at_first (others_hold 0 (omega (arith, long)) other)
+        subst (λ q. numbers_in after q ≡ numbers_in was q) indirect_at_first (others_hold 0 (omega (arith, long)) other)
 
-    pub double_holds : (1 ≡ place → ⊥) → numbers_in after inode.double ≡ inners
+    pub double_holds : (1 ≡ index_within → ⊥) → numbers_in after inode.double ≡ inners
     double_holds other =
         let long = many_pointers in
         subst (λ q. numbers_in after q ≡ numbers_in was q) double_at_second (others_hold 1 (omega (arith, long)) other)
 
-    pub inner_holds : (i : ℕ) → i < INDIRECT_INDEXES → (2 + i ≡ place → ⊥)
+    pub inner_holds : (i : ℕ) → i < INDIRECT_INDEXES → (2 + i ≡ index_within → ⊥)
         → numbers_in after (get_or inners i 0) ≡ numbers_in was (get_or inners i 0)
     inner_holds i less other =
         let long = many_pointers in
@@ -302,10 +302,10 @@ module _ (g : Geometry) (base : Image) (tree : Tree) (n : ℕ) (inode : Inode)
         (others_hold (2 + i) (omega (arith, long, less)) other)
 
   -- where all are as they were, all of them do
-  module _ (after : Image) (kept : (q : ℕ) → 1 ≤ times q own → after q ≡ was q) where
-    pub all_kept : AllByRecursion (λ number. nat_eq number 0 ≡ false → after number ≡ was number) pointers
-    all_kept = each_place (λ number. nat_eq number 0 ≡ false → after number ≡ was number) pointers
-        (λ i less some_i. kept (get_or pointers i 0) (own_pointer i less some_i))
+  module _ (after : Image) (is_preserved : (q : ℕ) → 1 ≤ times q own → after q ≡ was q) where
+    pub all_preserved : AllByRecursion (λ number. nat_eq number 0 ≡ false → after number ≡ was number) pointers
+    all_preserved = each_index_within (λ number. nat_eq number 0 ≡ false → after number ≡ was number) pointers
+        (λ i less some_i. is_preserved (get_or pointers i 0) (own_pointer i less some_i))
 
   -- ---- its numbers fit
 

@@ -23,7 +23,7 @@ use Rattle.layout.specs.InodeForm.{SoundInode, is_data_block_or_none, is_sound_f
 use Rattle.layout.specs.InodeForm.{is_sound_kind, is_sound_map, is_sound_regular}
 use Rattle.layout.specs.Owners.{owned_by}
 use Rattle.layout.specs.Parts.{content_in}
-use Rattle.inode.proofs.DraftsLemmas.Marks.{times}
+use Rattle.inode.proofs.WriteSetsLemmas.Marks.{times}
 use Rattle.layout.specs.Places.{is_data}
 use Rattle.layout.proofs.AllNumbers.{all-length}
 use Rattle.layout.proofs.FileNumbers.{pointers_pass}
@@ -90,13 +90,13 @@ module _ (g : Geometry) (base : Image) (tree : Tree) (n : ℕ) (inode : Inode)
       by_test false = long_content q
 
   module _ (offset : ℕ) (piece : List ℕ) (is : IsPiece offset piece) (b : ℕ) (direct : List ℕ)
-      (far double : ℕ) (after : Image) (gained : List ℕ)
-      (fills : Fills g base inode offset piece b direct far double after gained) where
+      (indirect_block double : ℕ) (after : Image) (gained : List ℕ)
+      (fills : Fills g base inode offset piece b direct indirect_block double after gained) where
     abbrev index : ℕ
     index = offset / BLOCK_BYTES
 
     abbrev pub new : Inode
-    new = mapping inode (grown_size inode.size offset piece) direct far double
+    new = mapping inode (grown_size inode.size offset piece) direct indirect_block double
 
     low : index < length numbers
     low = let many = count in let small = is.small in let some = is.some in omega (arith, many, small, some)
@@ -126,8 +126,8 @@ module _ (g : Geometry) (base : Image) (tree : Tree) (n : ℕ) (inode : Inode)
         is.within others here
         ∙ ap (λ k. spliced (flat_map (content_of content) numbers) k piece) there
 
-    room : offset + length piece ≤ length (bytes_of content numbers)
-    room = let all = bytes_count in let small = is.small in omega (arith, all, small)
+    has_space : offset + length piece ≤ length (bytes_of content numbers)
+    has_space = let all = bytes_count in let small = is.small in omega (arith, all, small)
 
     few : inode.size ≤ length (bytes_of content numbers)
     few = let all = bytes_count in let small = size_fits in omega (arith, all, small)
@@ -146,7 +146,7 @@ module _ (g : Geometry) (base : Image) (tree : Tree) (n : ℕ) (inode : Inode)
     pub regular_body : regular_in after new ≡ with_text offset piece (regular_in content inode)
     regular_body = λ i. nodes.Regular
         ((ap (take (grown_size inode.size offset piece)) bytes_now
-        ∙ file_bytes (bytes_of content numbers) piece offset inode.size room few rules.zeros) i)
+        ∙ file_bytes (bytes_of content numbers) piece offset inode.size has_space few rules.zeros) i)
         (mapped_now i)
 
     pub body_is : body_of g.inodes after inode.kind new
@@ -165,7 +165,7 @@ module _ (g : Geometry) (base : Image) (tree : Tree) (n : ℕ) (inode : Inode)
         used = fills.used;
       };
       zeros = ap (λ l. is_zeros (drop (grown_size inode.size offset piece) l)) bytes_now
-          ∙ zeros_behind (bytes_of content numbers) piece offset inode.size room few rules.zeros;
+          ∙ zeros_behind (bytes_of content numbers) piece offset inode.size has_space few rules.zeros;
     }
 
     pub new_sound : SoundInode g new
@@ -186,7 +186,7 @@ module _ (g : Geometry) (base : Image) (tree : Tree) (n : ℕ) (inode : Inode)
         verifier = sound.fits.verifier;
         count = fills.count;
         direct = fills.fit;
-        indirect = fills.far_fits;
+        indirect = fills.indirect_fits;
         double = fills.double_fits;
       };
       good = subst (λ kind. is_sound_kind g kind new ≡ true) (sym has.regular)
@@ -194,7 +194,7 @@ module _ (g : Geometry) (base : Image) (tree : Tree) (n : ℕ) (inode : Inode)
           && (largest i && parent i));
     }
       where
-        named : (is_data_block_or_none g far ≡ true) × (is_data_block_or_none g double ≡ true)
+        named : (is_data_block_or_none g indirect_block ≡ true) × (is_data_block_or_none g double ≡ true)
             × (list_all (is_data_block_or_none g) (numbers_in after double) ≡ true)
         named = pointers_pass after new (is_data_block_or_none g) fills.pointers_placed
 

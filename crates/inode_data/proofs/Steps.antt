@@ -9,10 +9,10 @@ use Rattle.nfs_spec.specs.Model.Cost.{cost}
 use Rattle.nfs_spec.specs.Model.Node.{Body, Node}
 use Rattle.nfs_spec.specs.Model.Tree.{Tree, free, node_at, with_node}
 use Rattle.nfs_spec.specs.Procedures.Write.{with_text}
-use Rattle.inode.specs.Drafts.Drafted.{Drafted, IsDraft}
-use Rattle.inode.proofs.DraftsLemmas.OneFile.{here_next}
+use Rattle.inode.specs.WriteSets.WriteSetContents.{WriteSetContents, IsWriteSet}
+use Rattle.inode.proofs.WriteSetsLemmas.OneFile.{here_next}
 use Rattle.inode_data.specs.Written.{WritesText, rewritten}
-use Rattle.inode_data.proofs.Adjoining.{costs_more, costs_within, next_room, put_twice, text_both}
+use Rattle.inode_data.proofs.Adjoining.{costs_more, costs_within, next_space, put_twice, text_both}
 
 same_node : (a b : Node) (o : Option Node) → o ≡ Some a → o ≡ Some b → a ≡ b
 same_node a b o one two = ap (λ (o : Option Node). unwrap_or o a) (sym one ∙ two)
@@ -49,12 +49,12 @@ module _ (offset done len : ℕ) (text : List ℕ) (some : 0 < done) (more : 0 <
     abbrev pub middle : Node → Tree
     middle node = with_node tree n (rewritten offset before node)
 
-    pub one_more : (draft new : Drafted) (blocks : Image) (had : WritesText draft blocks tree n offset before)
+    pub one_more : (write_set new : WriteSetContents) (blocks : Image) (had : WritesText write_set blocks tree n offset before)
         → WritesText new blocks (middle had.node) n (offset + done) piece → WritesText new blocks tree n offset after
-    one_more draft new blocks had has = record {
+    one_more write_set new blocks had has = record {
       node = had.node;
       was = had.was;
-      is = subst (IsDraft new blocks)
+      is = subst (IsWriteSet new blocks)
           (put_twice tree n (rewritten offset before had.node) (rewritten (offset + done) piece has.node)
           ∙ ap (λ (one : Node). with_node tree n (rewritten (offset + done) piece one))
           (same_node has.node (rewritten offset before had.node) (node_at (middle had.node) n) has.was
@@ -63,36 +63,36 @@ module _ (offset done len : ℕ) (text : List ℕ) (some : 0 < done) (more : 0 <
           has.is;
     }
 
-    pub room_left : (node : Node) → node_at tree n ≡ Some node
+    pub space_left : (node : Node) → node_at tree n ≡ Some node
         → cost (with_text offset text node.body) - cost node.body ≤ free tree
         → cost (with_text (offset + done) piece (with_text offset before node.body))
         - cost (with_text offset before node.body) ≤ free (middle node)
-    room_left node was room =
+    space_left node was has_space =
         let long = count in
         let all : length after ≡ done + len = length-take-le (done + len) text within in
         subst (λ (body : Body). cost body - cost (with_text offset before node.body) ≤ free (middle node))
         (sym (text_after node.body))
-        (next_room tree n node (with_text offset before node.body) (with_text offset after node.body)
+        (next_space tree n node (with_text offset before node.body) (with_text offset after node.body)
         (with_text offset text node.body) was (costs_more offset before node.body)
         (costs_within offset before after node.body (omega (arith, long, some)) (omega (arith, long, all)))
-        (costs_within offset after text node.body (omega (arith, all, some)) (omega (arith, all, within))) room)
+        (costs_within offset after text node.body (omega (arith, all, some)) (omega (arith, all, within))) has_space)
 
 -- a piece of a slice
 pub part_len : (done len : ℕ) → done + len - done ≡ len
 part_len done len = omega arith
 
 -- the first piece takes no more than all
-pub room_first : (tree : Tree) (node : Node) (offset len : ℕ) (text : List ℕ) → 0 < len → len ≤ length text
+pub space_first : (tree : Tree) (node : Node) (offset len : ℕ) (text : List ℕ) → 0 < len → len ≤ length text
     → cost (with_text offset text node.body) - cost node.body ≤ free tree
     → cost (with_text offset (take len text) node.body) - cost node.body ≤ free tree
-room_first tree node offset len text some short room =
+space_first tree node offset len text some short has_space =
     let long = length-take-le len text short in
     let less = costs_within offset (take len text) text node.body (omega (arith, long, some)) (omega (
       arith,
       long,
       short,
     )) in
-    omega (arith, less, room)
+    omega (arith, less, has_space)
 
 pub same_nodes : (tree : Tree) (n : ℕ) (a b : Node) → node_at tree n ≡ Some a → node_at tree n ≡ Some b → a ≡ b
 same_nodes tree n a b one two = same_node a b (node_at tree n) one two

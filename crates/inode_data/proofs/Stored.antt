@@ -25,7 +25,7 @@ use Rattle.bitmap.specs.NewBlock.{HasTaken, marking}
 use Rattle.bitmap.proofs.Gained.{grown}
 use Rattle.inode_data.specs.Filling.{Fills, grown_size, mapping}
 use Rattle.inode_data.specs.Written.{IsWrite, node_written}
-use Rattle.inode_data.proofs.ImageWritten.{AreBlocks, block_parts, blocks_kept, inode_kept, inode_parts}
+use Rattle.inode_data.proofs.ImageWritten.{AreBlocks, block_parts, blocks_preserved, inode_preserved, inode_parts}
 use Rattle.inode_data.proofs.PieceWritten.{new_sound, piece_holds}
 
 -- ---- bytes of a pointer block
@@ -50,9 +50,9 @@ module _ (g : Geometry) (base : Image) (tree : Tree) (n : ℕ) (inode : Inode) (
     (size : ℕ) (write : IsWrite g base tree n inode offset piece bytes size) (gained : List ℕ) (middle : Image)
     (taken : HasTaken g base tree gained middle)
     (long : (q : ℕ) → q < g.blocks → length (middle q) ≡ BLOCK_BYTES)
-    (count : length bytes ≡ BLOCK_BYTES) (b : ℕ) (direct : List ℕ) (far double : ℕ) where
+    (count : length bytes ≡ BLOCK_BYTES) (b : ℕ) (direct : List ℕ) (indirect_block double : ℕ) where
   abbrev new : Inode
-  new = mapping inode (grown_size inode.size offset piece) direct far double
+  new = mapping inode (grown_size inode.size offset piece) direct indirect_block double
 
   are : AreBlocks g middle
   are q low = (long q low, taken.bytes q low)
@@ -66,8 +66,8 @@ module _ (g : Geometry) (base : Image) (tree : Tree) (n : ℕ) (inode : Inode) (
 
   -- with this size in the inode
   abbrev pub Stores : Image → ℕ → Type 0
-  Stores image k = Next (with_inode g image n (mapping inode k direct far double))
-      × Reads (with_inode g image n (mapping inode k direct far double)) (mapping inode k direct far double)
+  Stores image k = Next (with_inode g image n (mapping inode k direct indirect_block double))
+      × Reads (with_inode g image n (mapping inode k direct indirect_block double)) (mapping inode k direct indirect_block double)
 
   sized : (image : Image) → Stores image (grown_size inode.size offset piece) → Stores image size
   sized image stores = subst (Stores image) (sym write.size_is) stores
@@ -83,44 +83,44 @@ module _ (g : Geometry) (base : Image) (tree : Tree) (n : ℕ) (inode : Inode) (
   HasContent image content = parts_of g image
       ≡ record (parts_of g base) { content = content; block_bits = marking gained (parts_of g base).block_bits }
 
-  module _ (image content : Image) (part : HasContent image content) (kept : AreBlocks g image) where
+  module _ (image content : Image) (part : HasContent image content) (is_preserved : AreBlocks g image) where
     -- with a block more
     module _ (q : ℕ) (named : List ℕ) (lies : is_data g q ≡ true) (named_count : length named ≡ BLOCK_BYTES) where
       more_part : HasContent (with_bytes image q 0 named) (put content q named)
-      more_part = block_parts g image q named kept lies named_count
+      more_part = block_parts g image q named is_preserved lies named_count
           ∙ (λ i. record (part i) { content = put (part i).content q named })
 
-      more_kept : AreBytes named → AreBlocks g (with_bytes image q 0 named)
-      more_kept each = blocks_kept g image q named kept lies named_count each
+      more_preserved : AreBytes named → AreBlocks g (with_bytes image q 0 named)
+      more_preserved each = blocks_preserved g image q named is_preserved lies named_count each
 
     -- and with the file's inode, whatever blocks these are
-    module _ (fills : Fills g base inode offset piece b direct far double content gained) where
+    module _ (fills : Fills g base inode offset piece b direct indirect_block double content gained) where
       sound : SoundInode g new
-      sound = new_sound g base tree n inode write.has offset piece write.fits b direct far double content gained fills
+      sound = new_sound g base tree n inode write.has offset piece write.fits b direct indirect_block double content gained fills
 
       all_parts : parts_of g (with_inode g image n new) ≡ grown g base n new content gained
       all_parts =
-          inode_parts g image n new kept write.has.less sound
+          inode_parts g image n new is_preserved write.has.less sound
           ∙ (λ i. record (part i) { table = put (part i).table n (Ok (Some new)) })
 
       all_stored : Stores image size
       all_stored = sized image (
         record {
-          bytes = inode_kept g image n new kept write.has.less sound;
+          bytes = inode_preserved g image n new is_preserved write.has.less sound;
           parts = subst (λ parts. PartsHold g parts (with_node tree n (node_written g base inode offset piece)))
               (sym all_parts)
-              (piece_holds g base tree n inode write.has offset piece write.fits b direct far double content gained
+              (piece_holds g base tree n inode write.has offset piece write.fits b direct indirect_block double content gained
               fills);
         },
-        read_again image sound kept,
+        read_again image sound is_preserved,
       )
 
   -- the block alone
-  module _ (fills : Fills g base inode offset piece b direct far double (put (content_in g base) b bytes) gained) where
+  module _ (fills : Fills g base inode offset piece b direct indirect_block double (put (content_in g base) b bytes) gained) where
     pub stored : Stores (with_bytes middle b 0 bytes) size
     stored = all_stored (with_bytes middle b 0 bytes) (put (content_in g base) b bytes)
         (more_part middle (content_in g base) taken.parts are b bytes fills.lies count)
-        (more_kept middle (content_in g base) taken.parts are b bytes fills.lies count write.each) fills
+        (more_preserved middle (content_in g base) taken.parts are b bytes fills.lies count write.each) fills
 
   -- a pointer block too
   module _ (holder : ℕ) (named : List ℕ) (named_each : AreBytes named) (named_count : length named ≡ BLOCK_BYTES)
@@ -134,19 +134,19 @@ module _ (g : Geometry) (base : Image) (tree : Tree) (n : ℕ) (inode : Inode) (
     one_part : HasContent one_image one_content
     one_part = more_part middle (content_in g base) taken.parts are holder named holder_lies named_count
 
-    one_kept : AreBlocks g one_image
-    one_kept = more_kept middle (content_in g base) taken.parts are holder named holder_lies named_count named_each
+    one_preserved : AreBlocks g one_image
+    one_preserved = more_preserved middle (content_in g base) taken.parts are holder named holder_lies named_count named_each
 
-    module _ (fills : Fills g base inode offset piece b direct far double (put one_content b bytes) gained) where
-      pub stored_far : Stores (with_bytes one_image b 0 bytes) size
-      stored_far = all_stored (with_bytes one_image b 0 bytes) (put one_content b bytes)
-          (more_part one_image one_content one_part one_kept b bytes fills.lies count)
-          (more_kept one_image one_content one_part one_kept b bytes fills.lies count write.each) fills
+    module _ (fills : Fills g base inode offset piece b direct indirect_block double (put one_content b bytes) gained) where
+      pub stored_indirect : Stores (with_bytes one_image b 0 bytes) size
+      stored_indirect = all_stored (with_bytes one_image b 0 bytes) (put one_content b bytes)
+          (more_part one_image one_content one_part one_preserved b bytes fills.lies count)
+          (more_preserved one_image one_content one_part one_preserved b bytes fills.lies count write.each) fills
 
     -- and another that it names
     module _ (inner : ℕ) (inner_named : List ℕ) (inner_each : AreBytes inner_named)
         (inner_count : length inner_named ≡ BLOCK_BYTES) (inner_lies : is_data g inner ≡ true)
-        (fills : Fills g base inode offset piece b direct far double
+        (fills : Fills g base inode offset piece b direct indirect_block double
         (put (put one_content inner inner_named) b bytes) gained) where
       abbrev two_content : Image
       two_content = put one_content inner inner_named
@@ -155,12 +155,12 @@ module _ (g : Geometry) (base : Image) (tree : Tree) (n : ℕ) (inode : Inode) (
       two_image = with_bytes one_image inner 0 inner_named
 
       two_part : HasContent two_image two_content
-      two_part = more_part one_image one_content one_part one_kept inner inner_named inner_lies inner_count
+      two_part = more_part one_image one_content one_part one_preserved inner inner_named inner_lies inner_count
 
-      two_kept : AreBlocks g two_image
-      two_kept = more_kept one_image one_content one_part one_kept inner inner_named inner_lies inner_count inner_each
+      two_preserved : AreBlocks g two_image
+      two_preserved = more_preserved one_image one_content one_part one_preserved inner inner_named inner_lies inner_count inner_each
 
       pub stored_double : Stores (with_bytes two_image b 0 bytes) size
       stored_double = all_stored (with_bytes two_image b 0 bytes) (put two_content b bytes)
-          (more_part two_image two_content two_part two_kept b bytes fills.lies count)
-          (more_kept two_image two_content two_part two_kept b bytes fills.lies count write.each) fills
+          (more_part two_image two_content two_part two_preserved b bytes fills.lies count)
+          (more_preserved two_image two_content two_part two_preserved b bytes fills.lies count write.each) fills

@@ -25,9 +25,9 @@ use Rattle.inode.specs.declared.snap.Snap.{Snap}
 use Rattle.inode.specs.Over.{HasInode}
 use Rattle.inode.specs.Shown.{IsInodeOf, body_in}
 use Rattle.inode.proofs.HeldThere.{is_inode_of}
-use Rattle.inode.specs.Drafts.Drafted.{Drafted, IsDraft, Shows, image_of}
-use Rattle.inode.proofs.DraftsLemmas.OneFile.{here_next, there_next}
-use Rattle.inode.proofs.DraftsLemmas.PutThere.{moved_draft}
+use Rattle.inode.specs.WriteSets.WriteSetContents.{WriteSetContents, IsWriteSet, Shows, image_of}
+use Rattle.inode.proofs.WriteSetsLemmas.OneFile.{here_next, there_next}
+use Rattle.inode.proofs.WriteSetsLemmas.PutThere.{moved_write_set}
 use Rattle.inode_data.specs.Filling.{HasRegular}
 use Rattle.inode_data.specs.Written.{NamesRegular, PutsPiece, WritesText, node_written, rewritten}
 use Rattle.inode_data.proofs.PieceWritten.{sound}
@@ -44,24 +44,24 @@ has_regular snap base tree n inode has is = record {
   newest = snap.newest;
 }
 
-pub has_inode : (draft : Drafted) (blocks : Image) (tree : Tree) (n : ℕ) (inode : Inode)
-    → IsDraft draft blocks tree → HasRegular draft.there.geometry (image_of blocks draft) tree n inode
-    → HasInode draft.there (image_of blocks draft) tree n inode
-has_inode draft blocks tree n inode is has = record {
+pub has_inode : (write_set : WriteSetContents) (blocks : Image) (tree : Tree) (n : ℕ) (inode : Inode)
+    → IsWriteSet write_set blocks tree → HasRegular write_set.there.geometry (image_of blocks write_set) tree n inode
+    → HasInode write_set.there (image_of blocks write_set) tree n inode
+has_inode write_set blocks tree n inode is has = record {
   over = record { holds = is.holds; saw = is.shows.saw };
   less = has.less;
   there = has.read;
 }
 
-pub far_placed : (g : Geometry) (base : Image) (tree : Tree) (n : ℕ) (inode : Inode)
+pub indirect_part_placed : (g : Geometry) (base : Image) (tree : Tree) (n : ℕ) (inode : Inode)
     → HasRegular g base tree n inode → is_data_block_or_none g inode.indirect ≡ true
-far_placed g base tree n inode has = (maps g inode (sound g base tree n inode has)).1
+indirect_part_placed g base tree n inode has = (maps g inode (sound g base tree n inode has)).1
 
 -- the node of an inode
 pub node_is : (snap : Snap) (base : Image) (tree : Tree) (n : ℕ) (inode : Inode) (node : Node)
     → IsInodeOf snap base tree n (Some inode) → node_at tree n ≡ Some node
     → node ≡ node_with inode (body_in snap.geometry base inode)
-node_is snap base tree n inode node told was = ap (λ (o : Option Node). unwrap_or o node) (sym was ∙ told.1)
+node_is snap base tree n inode node proven was = ap (λ (o : Option Node). unwrap_or o node) (sym was ∙ proven.1)
 
 -- the bytes of a block with a piece in them are bytes
 pub filled_are : (g : Geometry) (base : Image) (tree : Tree) → Holds g base tree → (b from : ℕ) (piece : List ℕ)
@@ -87,8 +87,8 @@ nothing_written kinds.Link offset text inodes content inode not = refl
 pub same_file : (snap : Snap) (base : Image) (tree : Tree) (n : ℕ) (inode : Inode) (node : Node) (offset : ℕ)
     (text : List ℕ) → IsInodeOf snap base tree n (Some inode) → node_at tree n ≡ Some node
     → (inode.kind ≡ kinds.Regular → ⊥) → rewritten offset text node ≡ node
-same_file snap base tree n inode node offset text told was not =
-    let is = node_is snap base tree n inode node told was in
+same_file snap base tree n inode node offset text proven was not =
+    let is = node_is snap base tree n inode node proven was in
     let there : node.body ≡ body_in snap.geometry base inode = ap (λ (one : Node). one.body) is in
     ap (λ (b : Body). record node { body = b })
     (ap (with_text offset text) there
@@ -116,33 +116,33 @@ same_holds g image tree n node new holds was is = record {
 
 -- ---- a regular file, and a piece of bytes in it
 
-pub regular_of : (draft : Drafted) (blocks : Image) (tree : Tree) (n : ℕ) (inode : Inode)
-    → IsDraft draft blocks tree → NamesRegular draft blocks n inode
-    → HasRegular draft.there.geometry (image_of blocks draft) tree n inode
-regular_of draft blocks tree n inode is names = record {
+pub regular_of : (write_set : WriteSetContents) (blocks : Image) (tree : Tree) (n : ℕ) (inode : Inode)
+    → IsWriteSet write_set blocks tree → NamesRegular write_set blocks n inode
+    → HasRegular write_set.there.geometry (image_of blocks write_set) tree n inode
+regular_of write_set blocks tree n inode is names = record {
   holds = is.holds;
   less = names.less;
   read = names.read;
   regular = names.regular;
-  newest = draft.there.newest;
+  newest = write_set.there.newest;
 }
 
 -- its node
-pub regular_node : (draft : Drafted) (blocks : Image) (tree : Tree) (n : ℕ) (inode : Inode)
-    → IsDraft draft blocks tree → NamesRegular draft blocks n inode
-    → node_at tree n ≡ Some (node_with inode (body_in draft.there.geometry (image_of blocks draft) inode))
-regular_node draft blocks tree n inode is names =
-    (is_inode_of draft.there (image_of blocks draft) tree n (Some inode) names.less names.read
+pub regular_node : (write_set : WriteSetContents) (blocks : Image) (tree : Tree) (n : ℕ) (inode : Inode)
+    → IsWriteSet write_set blocks tree → NamesRegular write_set blocks n inode
+    → node_at tree n ≡ Some (node_with inode (body_in write_set.there.geometry (image_of blocks write_set) inode))
+regular_node write_set blocks tree n inode is names =
+    (is_inode_of write_set.there (image_of blocks write_set) tree n (Some inode) names.less names.read
     (record { holds = is.holds; saw = is.shows.saw })).1
 
-pub regular_node_is : (draft : Drafted) (blocks : Image) (tree : Tree) (n : ℕ) (inode : Inode) (node : Node)
-    → IsDraft draft blocks tree → NamesRegular draft blocks n inode → node_at tree n ≡ Some node
-    → node ≡ node_with inode (body_in draft.there.geometry (image_of blocks draft) inode)
-regular_node_is draft blocks tree n inode node is names was =
-    ap (λ (o : Option Node). unwrap_or o node) (sym was ∙ regular_node draft blocks tree n inode is names)
+pub regular_node_is : (write_set : WriteSetContents) (blocks : Image) (tree : Tree) (n : ℕ) (inode : Inode) (node : Node)
+    → IsWriteSet write_set blocks tree → NamesRegular write_set blocks n inode → node_at tree n ≡ Some node
+    → node ≡ node_with inode (body_in write_set.there.geometry (image_of blocks write_set) inode)
+regular_node_is write_set blocks tree n inode node is names was =
+    ap (λ (o : Option Node). unwrap_or o node) (sym was ∙ regular_node write_set blocks tree n inode is names)
 
--- a draft that has come to these blocks, in which a piece was written
-pub moved_piece : (old new : Drafted) (blocks image : Image) (tree : Tree) (n : ℕ) (inode next made : Inode)
+-- a write set that has come to these blocks, in which a piece was written
+pub moved_piece : (old new : WriteSetContents) (blocks image : Image) (tree : Tree) (n : ℕ) (inode next made : Inode)
     (offset : ℕ) (piece : List ℕ) → new.there.geometry ≡ old.there.geometry → image_of blocks new ≡ image
     → Shows new image → n < old.there.geometry.inodes → next.kind ≡ kinds.Regular → made ≡ next
     → Holds old.there.geometry image
@@ -152,7 +152,7 @@ pub moved_piece : (old new : Drafted) (blocks image : Image) (tree : Tree) (n : 
 moved_piece old new blocks image tree n inode next made offset piece geometry is shows less regular same stores =
     record {
       is = let written = node_written old.there.geometry (image_of blocks old) inode offset piece in
-          moved_draft old new blocks image (with_node tree n written) geometry is shows stores.0;
+          moved_write_set old new blocks image (with_node tree n written) geometry is shows stores.0;
       names = record {
         less = subst (λ (g : Geometry). n < g.inodes) (sym geometry) less;
         read = (λ i. inode_at (geometry i) (is i) n) ∙ stores.1 ∙ (λ i. Ok (Some (sym same i)));
@@ -161,8 +161,8 @@ moved_piece old new blocks image tree n inode next made offset piece geometry is
     }
 
 -- the file has the text
-pub piece_text : (old new : Drafted) (blocks : Image) (tree : Tree) (n : ℕ) (inode next : Inode) (offset : ℕ)
-    (piece : List ℕ) → IsDraft old blocks tree → NamesRegular old blocks n inode
+pub piece_text : (old new : WriteSetContents) (blocks : Image) (tree : Tree) (n : ℕ) (inode next : Inode) (offset : ℕ)
+    (piece : List ℕ) → IsWriteSet old blocks tree → NamesRegular old blocks n inode
     → PutsPiece old new blocks tree n inode next offset piece
     → WritesText new blocks tree n offset piece × NamesRegular new blocks n next
 piece_text old new blocks tree n inode next offset piece is names puts = (

@@ -46,14 +46,14 @@ grown_size size offset piece = max size (offset + length piece)
 
 -- the inode with these numbers of blocks and this size
 abbrev pub mapping : Inode → ℕ → List ℕ → ℕ → ℕ → Inode
-mapping inode size numbers far double =
-    record inode { size = size; direct = numbers; indirect = far; double = double }
+mapping inode size numbers indirect_block double =
+    record inode { size = size; direct = numbers; indirect = indirect_block; double = double }
 
 -- The block b is at the piece's index, and has what the file's block there had, with the piece. Each block that
 -- was gained was free, and what is in all others is as it was.
 pub record Fills (g : Geometry) (base : Image) (inode : Inode) (offset : ℕ) (piece : List ℕ) (b : ℕ)
-    (numbers : List ℕ) (far double : ℕ) (content : Image) (gained : List ℕ) : Type 0 where
-  pub now : numbers_of content (mapping inode (grown_size inode.size offset piece) numbers far double)
+    (numbers : List ℕ) (indirect_block double : ℕ) (content : Image) (gained : List ℕ) : Type 0 where
+  pub now : numbers_of content (mapping inode (grown_size inode.size offset piece) numbers indirect_block double)
       ≡ set (numbers_of (content_in g base) inode) (offset / BLOCK_BYTES) b
   pub lies : is_data g b ≡ true
   pub here : content b
@@ -65,20 +65,20 @@ pub record Fills (g : Geometry) (base : Image) (inode : Inode) (offset : ℕ) (p
       → content (get_or (numbers_of (content_in g base) inode) j 0)
       ≡ content_in g base (get_or (numbers_of (content_in g base) inode) j 0)
   pub used : list_all (is_used_pointer content)
-      (pointer_blocks content (mapping inode (grown_size inode.size offset piece) numbers far double)) ≡ true
+      (pointer_blocks content (mapping inode (grown_size inode.size offset piece) numbers indirect_block double)) ≡ true
   pub count : length numbers ≡ DIRECT_INDEXES
   pub fit : AllByRecursion (λ number. number < 2 ^ 32) numbers
   pub placed : list_all (is_data_block_or_none g) numbers ≡ true
-  pub far_fits : far < 2 ^ 32
+  pub indirect_fits : indirect_block < 2 ^ 32
   pub double_fits : double < 2 ^ 32
   pub pointers_placed : list_all (is_data_block_or_none g)
-      (pointer_blocks content (mapping inode (grown_size inode.size offset piece) numbers far double)) ≡ true
+      (pointer_blocks content (mapping inode (grown_size inode.size offset piece) numbers indirect_block double)) ≡ true
   pub has_double : (nat_eq double 0 || has_double g.version) ≡ true
   pub outside : (q : ℕ) → count_by (λ one. nat_eq one q) (owned_by (content_in g base) (Ok (Some inode))) ≡ 0
       → count_by (λ one. nat_eq one q) gained ≡ 0 → content q ≡ content_in g base q
   pub counted : (q : ℕ)
       → count_by (λ one. nat_eq one q) (filter (λ number. not (nat_eq number 0))
-      (pointer_blocks content (mapping inode (grown_size inode.size offset piece) numbers far double)
+      (pointer_blocks content (mapping inode (grown_size inode.size offset piece) numbers indirect_block double)
       ++ set (numbers_of (content_in g base) inode) (offset / BLOCK_BYTES) b))
       ≡ count_by (λ one. nat_eq one q) gained
       + count_by (λ one. nat_eq one q) (owned_by (content_in g base) (Ok (Some inode)))

@@ -6,5 +6,5 @@ use Rattle.base.specs.declared.TheConstants.{FIRST_DOUBLE_INDEX, INDIRECT_INDEXE
 abbrev pub inner_of : ℕ → ℕ
 inner_of index = (index - FIRST_DOUBLE_INDEX) / INDIRECT_INDEXES
 
-abbrev pub place_of : ℕ → ℕ
-place_of index = (index - FIRST_DOUBLE_INDEX) % INDIRECT_INDEXES
+abbrev pub index_in_inner : ℕ → ℕ
+index_in_inner index = (index - FIRST_DOUBLE_INDEX) % INDIRECT_INDEXES

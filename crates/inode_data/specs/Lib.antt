@@ -1,5 +1,5 @@
 pub mod Filling
 pub mod Written
 pub mod Adding
-pub mod Spent
+pub mod CleanCounts
 pub mod Inner

@@ -14,7 +14,7 @@ use Rattle.layout.specs.Decode.{content_of, inode_at, node_with}
 use Rattle.layout.specs.Parts.{content_in}
 use Rattle.inode.specs.Over.{number_at}
 use Rattle.inode.specs.Shown.{body_in}
-use Rattle.inode.specs.Drafts.Drafted.{Drafted, IsDraft, image_of}
+use Rattle.inode.specs.WriteSets.WriteSetContents.{WriteSetContents, IsWriteSet, image_of}
 use Rattle.inode_data.specs.Filling.{HasRegular, IsPiece, grown_size}
 
 -- A piece is to be written to the file of this inode: these are the bytes of its block with the piece, and this
@@ -38,22 +38,22 @@ abbrev pub rewritten : ℕ → List ℕ → Node → Node
 rewritten offset text node = record node { body = with_text offset text node.body }
 
 -- with what was written the blocks hold the tree in which a file has these bytes in it
-pub record WritesText (draft : Drafted) (blocks : Image) (tree : Tree) (number offset : ℕ) (text : List ℕ) : Type 0
+pub record WritesText (write_set : WriteSetContents) (blocks : Image) (tree : Tree) (number offset : ℕ) (text : List ℕ) : Type 0
   where
     pub node : Node
     pub was : node_at tree number ≡ Some node
-    pub is : IsDraft draft blocks (with_node tree number (rewritten offset text node))
+    pub is : IsWriteSet write_set blocks (with_node tree number (rewritten offset text node))
 
 -- with what was written a regular file has this inode under this number
-pub record NamesRegular (draft : Drafted) (blocks : Image) (number : ℕ) (inode : Inode) : Type 0 where
-  pub less : number < draft.there.geometry.inodes
-  pub read : inode_at draft.there.geometry (image_of blocks draft) number ≡ Ok (Some inode)
+pub record NamesRegular (write_set : WriteSetContents) (blocks : Image) (number : ℕ) (inode : Inode) : Type 0 where
+  pub less : number < write_set.there.geometry.inodes
+  pub read : inode_at write_set.there.geometry (image_of blocks write_set) number ≡ Ok (Some inode)
   pub regular : inode.kind ≡ kinds.Regular
 
 -- A piece was written to the file of an inode: with what is written now the blocks hold the tree in which the file
 -- has it, and its inode is the next.
-pub record PutsPiece (draft new : Drafted) (blocks : Image) (tree : Tree) (number : ℕ) (inode next : Inode)
+pub record PutsPiece (write_set new : WriteSetContents) (blocks : Image) (tree : Tree) (number : ℕ) (inode next : Inode)
     (offset : ℕ) (piece : List ℕ) : Type 0 where
-  pub is : IsDraft new blocks
-      (with_node tree number (node_written draft.there.geometry (image_of blocks draft) inode offset piece))
+  pub is : IsWriteSet new blocks
+      (with_node tree number (node_written write_set.there.geometry (image_of blocks write_set) inode offset piece))
   pub names : NamesRegular new blocks number next

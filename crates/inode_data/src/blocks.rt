@@ -8,26 +8,26 @@ ghost use Rattle.layout.specs.Decode.{content_of};
 ghost use Rattle.layout.specs.InodeForm.{is_data_block_or_none};
 ghost use Rattle.layout.specs.Parts.{content_in, with_bytes};
 ghost use Rattle.layout.specs.Places.{is_data};
-ghost use Rattle.inode.specs.Over.{IsOver, IsPause, MayStop};
-ghost use Rattle.inode.specs.Drafts.Drafted.{Shows, fresh, fresh_block, image_of, spent};
+ghost use Rattle.inode.specs.Over.{IsOver, IsResumable, MaySuspend};
+ghost use Rattle.inode.specs.WriteSets.WriteSetContents.{Shows, fresh, fresh_block, image_of, dirty_count};
 
 use base::BLOCK_BYTES;
 use disk::{Block, BlockNo, SharedBlock};
-use inode::{Draft, Snap, Stop, data_block};
+use inode::{Snap, Suspend, WriteSet, data_block};
 use layout_records::with_piece;
 use objects::{Addr, SharedBytes};
 use std::alloc::{AllocError, Global};
 
 // The bytes that take the place of all that a block has. It is claimed where it wasn't read.
-fn whole(alloc: Global, snap: &Snap, number: u32, bytes: &[u8]) -> Result<Vec<u8>, Stop>
+fn whole(alloc: Global, snap: &Snap, number: u32, bytes: &[u8]) -> Result<Vec<u8>, Suspend>
     requires { is_data snap.now.geometry number ≡ true }
     ensures are { IfOk result (λ new. new.items ≡ bytes.now) }
-    ensures err { IfErr result (λ stop. MayStop snap.now stop) }
-    ensures pause { IfErr result (λ stop. IsPause stop) }
+    ensures err { IfErr result (λ suspend. MaySuspend snap.now suspend) }
+    ensures resumable { IfErr result (λ suspend. IsResumable suspend) }
 {
     let block = BlockNo(number);
     if snap.get(Addr::whole(block)).is_none() && !snap.has_claim(block) {
-        return Err(Stop::Claim(block));
+        return Err(Suspend::Claim(block));
     }
     Ok(Vec::from_slice(alloc, bytes)?)
 }
@@ -52,14 +52,14 @@ pub(crate) fn filled(
     number: u32,
     from: usize,
     piece: &[u8],
-) -> Result<Vec<u8>, Stop>
+) -> Result<Vec<u8>, Suspend>
     requires placed { is_data_block_or_none snap.now.geometry number ≡ true }
     requires within { from + length piece.now ≤ BLOCK_BYTES }
     ensures len { IfOk result (λ bytes. length bytes.items ≡ BLOCK_BYTES) }
     ensures are { IfOk result (λ bytes. (blocks : Image) (tree : Tree) → IsOver snap.now blocks tree
         → bytes.items ≡ spliced (content_of (content_in snap.now.geometry blocks) number) from piece.now) }
-    ensures err { IfErr result (λ stop. MayStop snap.now stop) }
-    ensures pause { IfErr result (λ stop. IsPause stop) }
+    ensures err { IfErr result (λ suspend. MaySuspend snap.now suspend) }
+    ensures resumable { IfErr result (λ suspend. IsResumable suspend) }
 {
     if number == 0 {
         return Ok(begun(alloc, from, piece)?);
@@ -83,24 +83,24 @@ fn shared(bytes: Vec<u8>) -> Result<SharedBytes, AllocError>
 }
 
 /// Writes a data block. None of its bytes is copied.
-pub fn put_block(draft: &mut Draft, number: u32, bytes: Vec<u8>) -> Result<(), Stop>
-    requires lies { is_data draft.old.there.geometry number ≡ true }
+pub fn put_block(write_set: &mut WriteSet, number: u32, bytes: Vec<u8>) -> Result<(), Suspend>
+    requires lies { is_data write_set.old.there.geometry number ≡ true }
     requires len { length bytes.items ≡ BLOCK_BYTES }
-    ensures shows { OnOk result ((image : Image) → Shows draft.old image
-        → Shows draft.new (with_bytes image number 0 bytes.items)) }
-    ensures image { OnOk result ((blocks : Image) → image_of blocks draft.new
-        ≡ with_bytes (image_of blocks draft.old) number 0 bytes.items) }
-    ensures seen { draft.new.seen ≡ draft.old.seen }
-    ensures geometry { draft.new.there.geometry ≡ draft.old.there.geometry }
-    ensures spent { spent draft.new ≤ spent draft.old + 1 }
-    ensures once { spent draft.new + fresh_block draft.new number ≤ spent draft.old + fresh_block draft.old number }
-    ensures stays { (block offset len : ℕ) → fresh block offset len draft.new ≤ fresh block offset len draft.old }
-    ensures err { IfErr result (λ stop. MayStop draft.old.seen stop) }
-    ensures pause { IfErr result (λ stop. IsPause stop) }
+    ensures shows { OnOk result ((image : Image) → Shows write_set.old image
+        → Shows write_set.new (with_bytes image number 0 bytes.items)) }
+    ensures image { OnOk result ((blocks : Image) → image_of blocks write_set.new
+        ≡ with_bytes (image_of blocks write_set.old) number 0 bytes.items) }
+    ensures seen { write_set.new.seen ≡ write_set.old.seen }
+    ensures geometry { write_set.new.there.geometry ≡ write_set.old.there.geometry }
+    ensures dirty_count { dirty_count write_set.new ≤ dirty_count write_set.old + 1 }
+    ensures once { dirty_count write_set.new + fresh_block write_set.new number ≤ dirty_count write_set.old + fresh_block write_set.old number }
+    ensures stays { (block offset len : ℕ) → fresh block offset len write_set.new ≤ fresh block offset len write_set.old }
+    ensures err { IfErr result (λ suspend. MaySuspend write_set.old.seen suspend) }
+    ensures resumable { IfErr result (λ suspend. IsResumable suspend) }
 {
     let whole = Addr::whole(BlockNo(number));
     match shared(bytes) {
-        Ok(block) => draft.put_shared(whole, block),
-        Err(_) => Err(Stop::NoMemory),
+        Ok(block) => write_set.put_shared(whole, block),
+        Err(_) => Err(Suspend::NoMemory),
     }
 }

@@ -5,16 +5,16 @@ ghost use Rattle.disk.specs.Crash.{Image};
 ghost use Rattle.nfs_spec.specs.Model.Tree.{Tree, free};
 ghost use Rattle.layout.specs.Parts.{content_in};
 ghost use Rattle.layout.specs.Places.{is_data};
-ghost use Rattle.inode.specs.Over.{IsPause, MayStop, far_at, number_at};
-ghost use Rattle.inode.specs.Drafts.Drafted.{IsDraft, image_of, spent};
-ghost use Rattle.inode_data.specs.Inner.{inner_of, place_of};
-ghost use Rattle.inode_data.specs.Spent.{unspent};
+ghost use Rattle.inode.specs.Over.{IsResumable, MaySuspend, pointer_number_at, number_at};
+ghost use Rattle.inode.specs.WriteSets.WriteSetContents.{IsWriteSet, image_of, dirty_count};
+ghost use Rattle.inode_data.specs.Inner.{inner_of, index_in_inner};
+ghost use Rattle.inode_data.specs.CleanCounts.{clean_count};
 ghost use Rattle.inode_data.specs.Written.{IsWrite, PutsPiece};
 
-use crate::inodes::{led_double, sized, store_double, store_far};
+use crate::inodes::{sized, store_double, store_indirect, with_double_block};
 use base::{BLOCK_BYTES, FIRST_DOUBLE_INDEX, INDIRECT_INDEXES};
 use bitmap::take_block;
-use inode::{Draft, Stop, data_block};
+use inode::{Suspend, WriteSet, data_block};
 use layout::Inode;
 use layout_records::with_number;
 use std::alloc::Global;
@@ -30,10 +30,10 @@ pub(crate) fn inner_of(index: usize) -> usize
 }
 
 /// The place of its number there.
-pub(crate) fn place_of(index: usize) -> usize
+pub(crate) fn index_in_inner(index: usize) -> usize
     requires { FIRST_DOUBLE_INDEX ≤ index }
     ensures few { result < INDIRECT_INDEXES }
-    ensures is { result ≡ place_of index }
+    ensures is { result ≡ index_in_inner index }
 {
     (index - FIRST_DOUBLE_INDEX) % INDIRECT_INDEXES
 }
@@ -42,52 +42,54 @@ pub(crate) fn place_of(index: usize) -> usize
 /// done (false).
 pub(crate) fn map_inner(
     alloc: Global,
-    draft: &mut Draft,
+    write_set: &mut WriteSet,
     number: u32,
     inode: &mut Inode,
     index: usize,
     inner: u32,
     bytes: Vec<u8>,
     size: u64,
-) -> Result<bool, Stop>
-    requires inner { is_data draft.old.there.geometry inner ≡ true }
+) -> Result<bool, Suspend>
+    requires inner { is_data write_set.old.there.geometry inner ≡ true }
     requires past { FIRST_DOUBLE_INDEX ≤ index }
     requires within { index < FILE_INDEXES }
     requires len { length bytes.items ≡ BLOCK_BYTES }
     ensures ok { IfOk result (λ done. done ≡ true
-        → (blocks : Image) (tree : Tree) (offset : ℕ) (piece : List ℕ) → IsDraft draft.old blocks tree
-        → IsWrite draft.old.there.geometry (image_of blocks draft.old) tree number inode.old offset piece
+        → (blocks : Image) (tree : Tree) (offset : ℕ) (piece : List ℕ) → IsWriteSet write_set.old blocks tree
+        → IsWrite write_set.old.there.geometry (image_of blocks write_set.old) tree number inode.old offset piece
         bytes.items size → index ≡ offset / BLOCK_BYTES
-        → nat_eq (number_at draft.old.there.geometry (image_of blocks draft.old) inode.old (offset / BLOCK_BYTES)) 0
+        → nat_eq (number_at write_set.old.there.geometry (image_of blocks write_set.old) inode.old (offset / BLOCK_BYTES)) 0
         ≡ true
-        → inner ≡ far_at (content_in draft.old.there.geometry (image_of blocks draft.old)) inode.old.double
+        → inner ≡ pointer_number_at (content_in write_set.old.there.geometry (image_of blocks write_set.old)) inode.old.double
         (inner_of index)
-        → PutsPiece draft.old draft.new blocks tree number inode.old inode.new offset piece) }
-    ensures room { IfOk result (λ done. (blocks : Image) (tree : Tree) → IsDraft draft.old blocks tree
+        → PutsPiece write_set.old write_set.new blocks tree number inode.old inode.new offset piece) }
+    ensures has_space { IfOk result (λ done. (blocks : Image) (tree : Tree) → IsWriteSet write_set.old blocks tree
         → 1 ≤ free tree → done ≡ true) }
-    ensures seen { draft.new.seen ≡ draft.old.seen }
-    ensures twice { spent draft.new + unspent draft.new number inode.new.indirect inode.new.double
-        ≤ spent draft.old + unspent draft.old number inode.old.indirect inode.old.double + 2 }
-    ensures err { IfErr result (λ stop. MayStop draft.old.seen stop) }
-    ensures pause { IfErr result (λ stop. (blocks : Image) (tree : Tree) → IsDraft draft.old blocks tree
-        → number < draft.old.there.geometry.inodes → IsPause stop) }
+    ensures seen { write_set.new.seen ≡ write_set.old.seen }
+    ensures twice { dirty_count write_set.new + clean_count write_set.new number inode.new.indirect inode.new.double
+        ≤ dirty_count write_set.old + clean_count write_set.old number inode.old.indirect inode.old.double + 2 }
+    ensures err { IfErr result (λ suspend. MaySuspend write_set.old.seen suspend) }
+    ensures resumable { IfErr result (λ suspend. (blocks : Image) (tree : Tree) → IsWriteSet write_set.old blocks tree
+        → number < write_set.old.there.geometry.inodes → IsResumable suspend) }
 {
-    let old = match data_block(draft.there(), inner) {
+    let old = match data_block(write_set.there(), inner) {
         Ok(block) => Vec::from_slice(alloc, block)?,
-        Err(stop) => return Err(stop),
+        Err(suspend) => return Err(suspend),
     };
-    match take_block(alloc, draft) {
+    match take_block(alloc, write_set) {
         Ok(Some(block)) => {
-            let numbers = with_number(alloc, &old, place_of(index), block)?;
+            let numbers = with_number(alloc, &old, index_in_inner(index), block)?;
             let same = sized(inode, size);
             *inode = same;
-            match store_far(alloc, draft, number, inner, numbers, block, bytes, &same) {
+            match store_indirect(
+                alloc, write_set, number, inner, numbers, block, bytes, &same,
+            ) {
                 Ok(()) => Ok(true),
-                Err(stop) => Err(stop),
+                Err(suspend) => Err(suspend),
             }
         }
         Ok(None) => Ok(false),
-        Err(stop) => Err(stop),
+        Err(suspend) => Err(suspend),
     }
 }
 
@@ -95,61 +97,61 @@ pub(crate) fn map_inner(
 /// block names from then on. Where no two are free it isn't done (false).
 pub(crate) fn map_first_inner(
     alloc: Global,
-    draft: &mut Draft,
+    write_set: &mut WriteSet,
     number: u32,
     inode: &mut Inode,
     index: usize,
     bytes: Vec<u8>,
     size: u64,
-) -> Result<bool, Stop>
-    requires double { is_data draft.old.there.geometry inode.old.double ≡ true }
+) -> Result<bool, Suspend>
+    requires double { is_data write_set.old.there.geometry inode.old.double ≡ true }
     requires past { FIRST_DOUBLE_INDEX ≤ index }
     requires within { index < FILE_INDEXES }
     requires len { length bytes.items ≡ BLOCK_BYTES }
     ensures ok { IfOk result (λ done. done ≡ true
-        → (blocks : Image) (tree : Tree) (offset : ℕ) (piece : List ℕ) → IsDraft draft.old blocks tree
-        → IsWrite draft.old.there.geometry (image_of blocks draft.old) tree number inode.old offset piece
+        → (blocks : Image) (tree : Tree) (offset : ℕ) (piece : List ℕ) → IsWriteSet write_set.old blocks tree
+        → IsWrite write_set.old.there.geometry (image_of blocks write_set.old) tree number inode.old offset piece
         bytes.items size → index ≡ offset / BLOCK_BYTES
-        → nat_eq (number_at draft.old.there.geometry (image_of blocks draft.old) inode.old (offset / BLOCK_BYTES)) 0
+        → nat_eq (number_at write_set.old.there.geometry (image_of blocks write_set.old) inode.old (offset / BLOCK_BYTES)) 0
         ≡ true
-        → nat_eq (far_at (content_in draft.old.there.geometry (image_of blocks draft.old)) inode.old.double
+        → nat_eq (pointer_number_at (content_in write_set.old.there.geometry (image_of blocks write_set.old)) inode.old.double
         (inner_of index)) 0 ≡ true
-        → PutsPiece draft.old draft.new blocks tree number inode.old inode.new offset piece) }
-    ensures room { IfOk result (λ done. (blocks : Image) (tree : Tree) → IsDraft draft.old blocks tree
+        → PutsPiece write_set.old write_set.new blocks tree number inode.old inode.new offset piece) }
+    ensures has_space { IfOk result (λ done. (blocks : Image) (tree : Tree) → IsWriteSet write_set.old blocks tree
         → 2 ≤ free tree → done ≡ true) }
-    ensures seen { draft.new.seen ≡ draft.old.seen }
-    ensures twice { spent draft.new + unspent draft.new number inode.new.indirect inode.new.double
-        ≤ spent draft.old + unspent draft.old number inode.old.indirect inode.old.double + 2 }
-    ensures err { IfErr result (λ stop. MayStop draft.old.seen stop) }
-    ensures pause { IfErr result (λ stop. (blocks : Image) (tree : Tree) → IsDraft draft.old blocks tree
-        → number < draft.old.there.geometry.inodes → IsPause stop) }
+    ensures seen { write_set.new.seen ≡ write_set.old.seen }
+    ensures twice { dirty_count write_set.new + clean_count write_set.new number inode.new.indirect inode.new.double
+        ≤ dirty_count write_set.old + clean_count write_set.old number inode.old.indirect inode.old.double + 2 }
+    ensures err { IfErr result (λ suspend. MaySuspend write_set.old.seen suspend) }
+    ensures resumable { IfErr result (λ suspend. (blocks : Image) (tree : Tree) → IsWriteSet write_set.old blocks tree
+        → number < write_set.old.there.geometry.inodes → IsResumable suspend) }
 {
-    let old = match data_block(draft.there(), inode.double) {
+    let old = match data_block(write_set.there(), inode.double) {
         Ok(block) => Vec::from_slice(alloc, block)?,
-        Err(stop) => return Err(stop),
+        Err(suspend) => return Err(suspend),
     };
-    let block = match take_block(alloc, draft) {
+    let block = match take_block(alloc, write_set) {
         Ok(Some(block)) => block,
         Ok(None) => return Ok(false),
-        Err(stop) => return Err(stop),
+        Err(suspend) => return Err(suspend),
     };
-    match take_block(alloc, draft) {
+    match take_block(alloc, write_set) {
         Ok(Some(inner)) => {
             let zeros = [0; BLOCK_BYTES];
-            let numbers = with_number(alloc, &zeros, place_of(index), block)?;
+            let numbers = with_number(alloc, &zeros, index_in_inner(index), block)?;
             let inners = with_number(alloc, &old, inner_of(index), inner)?;
             let same = sized(inode, size);
             let double = inode.double;
             *inode = same;
             match store_double(
-                alloc, draft, number, double, inners, inner, numbers, block, bytes, &same,
+                alloc, write_set, number, double, inners, inner, numbers, block, bytes, &same,
             ) {
                 Ok(()) => Ok(true),
-                Err(stop) => Err(stop),
+                Err(suspend) => Err(suspend),
             }
         }
         Ok(None) => Ok(false),
-        Err(stop) => Err(stop),
+        Err(suspend) => Err(suspend),
     }
 }
 
@@ -157,58 +159,58 @@ pub(crate) fn map_first_inner(
 /// the double indirect block from then on. Where no three are free it isn't done (false).
 pub(crate) fn map_double(
     alloc: Global,
-    draft: &mut Draft,
+    write_set: &mut WriteSet,
     number: u32,
     inode: &mut Inode,
     index: usize,
     bytes: Vec<u8>,
     size: u64,
-) -> Result<bool, Stop>
+) -> Result<bool, Suspend>
     requires none { nat_eq inode.old.double 0 ≡ true }
     requires past { FIRST_DOUBLE_INDEX ≤ index }
     requires within { index < FILE_INDEXES }
     requires len { length bytes.items ≡ BLOCK_BYTES }
     ensures ok { IfOk result (λ done. done ≡ true
-        → (blocks : Image) (tree : Tree) (offset : ℕ) (piece : List ℕ) → IsDraft draft.old blocks tree
-        → IsWrite draft.old.there.geometry (image_of blocks draft.old) tree number inode.old offset piece
+        → (blocks : Image) (tree : Tree) (offset : ℕ) (piece : List ℕ) → IsWriteSet write_set.old blocks tree
+        → IsWrite write_set.old.there.geometry (image_of blocks write_set.old) tree number inode.old offset piece
         bytes.items size → index ≡ offset / BLOCK_BYTES
-        → nat_eq (number_at draft.old.there.geometry (image_of blocks draft.old) inode.old (offset / BLOCK_BYTES)) 0
+        → nat_eq (number_at write_set.old.there.geometry (image_of blocks write_set.old) inode.old (offset / BLOCK_BYTES)) 0
         ≡ true
-        → PutsPiece draft.old draft.new blocks tree number inode.old inode.new offset piece) }
-    ensures room { IfOk result (λ done. (blocks : Image) (tree : Tree) → IsDraft draft.old blocks tree
+        → PutsPiece write_set.old write_set.new blocks tree number inode.old inode.new offset piece) }
+    ensures has_space { IfOk result (λ done. (blocks : Image) (tree : Tree) → IsWriteSet write_set.old blocks tree
         → 3 ≤ free tree → done ≡ true) }
-    ensures seen { draft.new.seen ≡ draft.old.seen }
-    ensures twice { spent draft.new + unspent draft.new number inode.new.indirect inode.new.double
-        ≤ spent draft.old + unspent draft.old number inode.old.indirect inode.old.double + 2 }
-    ensures err { IfErr result (λ stop. MayStop draft.old.seen stop) }
-    ensures pause { IfErr result (λ stop. (blocks : Image) (tree : Tree) → IsDraft draft.old blocks tree
-        → number < draft.old.there.geometry.inodes → IsPause stop) }
+    ensures seen { write_set.new.seen ≡ write_set.old.seen }
+    ensures twice { dirty_count write_set.new + clean_count write_set.new number inode.new.indirect inode.new.double
+        ≤ dirty_count write_set.old + clean_count write_set.old number inode.old.indirect inode.old.double + 2 }
+    ensures err { IfErr result (λ suspend. MaySuspend write_set.old.seen suspend) }
+    ensures resumable { IfErr result (λ suspend. (blocks : Image) (tree : Tree) → IsWriteSet write_set.old blocks tree
+        → number < write_set.old.there.geometry.inodes → IsResumable suspend) }
 {
-    let block = match take_block(alloc, draft) {
+    let block = match take_block(alloc, write_set) {
         Ok(Some(block)) => block,
         Ok(None) => return Ok(false),
-        Err(stop) => return Err(stop),
+        Err(suspend) => return Err(suspend),
     };
-    let inner = match take_block(alloc, draft) {
+    let inner = match take_block(alloc, write_set) {
         Ok(Some(inner)) => inner,
         Ok(None) => return Ok(false),
-        Err(stop) => return Err(stop),
+        Err(suspend) => return Err(suspend),
     };
-    match take_block(alloc, draft) {
+    match take_block(alloc, write_set) {
         Ok(Some(double)) => {
             let zeros = [0; BLOCK_BYTES];
-            let numbers = with_number(alloc, &zeros, place_of(index), block)?;
+            let numbers = with_number(alloc, &zeros, index_in_inner(index), block)?;
             let inners = with_number(alloc, &zeros, inner_of(index), inner)?;
-            let led = led_double(inode, size, double);
-            *inode = led;
+            let repointed = with_double_block(inode, size, double);
+            *inode = repointed;
             match store_double(
-                alloc, draft, number, double, inners, inner, numbers, block, bytes, &led,
+                alloc, write_set, number, double, inners, inner, numbers, block, bytes, &repointed,
             ) {
                 Ok(()) => Ok(true),
-                Err(stop) => Err(stop),
+                Err(suspend) => Err(suspend),
             }
         }
         Ok(None) => Ok(false),
-        Err(stop) => Err(stop),
+        Err(suspend) => Err(suspend),
     }
 }

@@ -1,15 +1,15 @@
 //! Bytes that are written to regular files.
 #![tactic(auto)]
 
-mod adding;
+mod added_blocks;
 mod blocks;
 mod doubles;
 mod inodes;
-mod mapping;
+mod mapped_blocks;
 mod pieces;
-mod writing;
+mod writes;
 
-pub use adding::unmapped;
+pub use added_blocks::unmapped;
 pub use blocks::put_block;
-pub use inodes::{led_far, naming, sized, store, store_far};
-pub use writing::write;
+pub use inodes::{naming, sized, store, store_indirect, with_indirect_block};
+pub use writes::write;

@@ -19,11 +19,11 @@ use Rattle.layout.proofs.WrittenBytes.{taken}
 use Rattle.inode.proofs.AllTests.{same_number}
 use Rattle.inode.proofs.InodeThere.{data_of}
 use Rattle.bitmap.specs.Bits.{AreOfBytes}
-use Rattle.inode_data.proofs.ImageWritten.{AreBlocks, block_parts, blocks_kept, inode_kept, inode_parts}
+use Rattle.inode_data.proofs.ImageWritten.{AreBlocks, block_parts, blocks_preserved, inode_preserved, inode_parts}
 use Rattle.bitmap.specs.Inodes.Frees.{Frees, without}
 use Rattle.inode_sizes.specs.Cut.{with_numbers, with_zeros, zeroed}
 use Rattle.inode_sizes.specs.CutBlocks.{HasNumbers, HasPointers, HasZeros, IsCut, with_pointers}
-use Rattle.inode_sizes.specs.declared.cutting.CutPointers.{CutPointers}
+use Rattle.inode_sizes.specs.declared.cuts.CutPointers.{CutPointers}
 
 -- ---- bytes
 
@@ -107,9 +107,9 @@ module _ (g : Geometry) (number : ℕ) (image new : Image) (bytes : List ℕ) (s
   lies : is_data g number ≡ true
   lies = data_of (nat_eq number 0) (is_data g number) some placed
 
-  kept : AreBytes bytes → AreOfBytes g new
-  kept bytes_are q low = subst (λ (blocks : Image). AreBytes (blocks q)) (sym is)
-      (blocks_kept g image number bytes are lies size bytes_are q low).1
+  left_over : AreBytes bytes → AreOfBytes g new
+  left_over bytes_are q low = subst (λ (blocks : Image). AreBytes (blocks q)) (sym is)
+      (blocks_preserved g image number bytes are lies size bytes_are q low).1
 
   written : parts_of g new ≡ record (parts_of g image) { content = put (content_in g image) number bytes }
   written = ap (parts_of g) is ∙ block_parts g image number bytes are lies size
@@ -120,7 +120,7 @@ module _ (g : Geometry) (number : ℕ) (image new : Image) (bytes : List ℕ) (s
   pub zeros_put : (from : ℕ) → bytes ≡ zeroed from (content_in g image number)
       → HasZeros g number from image new
   zeros_put from same = record {
-    bytes = λ old. kept (subst AreBytes (sym same)
+    bytes = λ old. left_over (subst AreBytes (sym same)
         (zeroed_are from (content_in g image number) (subst AreBytes (sym there)
         (are number (data_within g number lies).1).1)));
     parts = written ∙ (λ i. record (parts_of g image) {
@@ -132,7 +132,7 @@ module _ (g : Geometry) (number : ℕ) (image new : Image) (bytes : List ℕ) (s
 
   pub numbers_put : (numbers : List ℕ) → bytes ≡ number_bytes numbers → HasNumbers g number numbers image new
   numbers_put numbers same = record {
-    bytes = λ old. kept (subst AreBytes (sym same) (fours numbers).are);
+    bytes = λ old. left_over (subst AreBytes (sym same) (fours numbers).are);
     parts = written ∙ (λ i. record (parts_of g image) {
       content = (ap (put (content_in g image) number) same
           ∙ sym (ap (λ t. cond t (content_in g image) (put (content_in g image) number (number_bytes numbers)))
@@ -143,18 +143,18 @@ module _ (g : Geometry) (number : ℕ) (image new : Image) (bytes : List ℕ) (s
 -- ---- all of them
 
 pub all_pointers : (g : Geometry) (cut : CutPointers) (first second third final : Image)
-    → HasNumbers g cut.far.pointer cut.far.numbers.items first second
+    → HasNumbers g cut.indirect_part.pointer cut.indirect_part.numbers.items first second
     → HasNumbers g cut.double.inners.part cut.double.inners.part_numbers.items second third
     → HasNumbers g cut.double.pointer cut.double.inners.numbers.items third final
     → HasPointers g cut first final
-all_pointers g cut first second third final far part double = record {
-  bytes = λ old. double.bytes (part.bytes (far.bytes old));
+all_pointers g cut first second third final indirect_part part double = record {
+  bytes = λ old. double.bytes (part.bytes (indirect_part.bytes old));
   parts = double.parts
       ∙ (λ i. record (part.parts i) {
         content = with_numbers (part.parts i).content cut.double.pointer cut.double.inners.numbers.items;
       })
-      ∙ (λ i. record (far.parts i) {
-        content = with_numbers (with_numbers (far.parts i).content cut.double.inners.part
+      ∙ (λ i. record (indirect_part.parts i) {
+        content = with_numbers (with_numbers (indirect_part.parts i).content cut.double.inners.part
             cut.double.inners.part_numbers.items) cut.double.pointer cut.double.inners.numbers.items;
       });
 }
@@ -167,7 +167,7 @@ pub all_cut : (g : Geometry) (n : ℕ) (inode : Inode) (last from : ℕ) (cut : 
 all_cut g n inode last from cut first second third fourth final less sound old zeros pointers frees long is =
     record {
       bytes = λ still q low. subst (λ (image : Image). AreBytes (image q)) (sym is)
-          (inode_kept g fourth n inode are less sound q low).1;
+          (inode_preserved g fourth n inode are less sound q low).1;
       parts = ap (parts_of g) is ∙ inode_parts g fourth n inode are less sound
           ∙ (λ i. record (before i) { table = put (before i).table n (Ok (Some inode)) });
     }

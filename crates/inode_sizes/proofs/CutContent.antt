@@ -19,16 +19,16 @@ use Rattle.layout.proofs.FileNumbers.{in_parts, parts_pass, pass_pointers, point
 use Rattle.layout.proofs.NumbersIn as inside
 use Rattle.layout.proofs.NumbersIn.{doubled_pass, in_length, same_in}
 use Rattle.inode.proofs.Placed.{passes_at}
-use Rattle.inode_data.proofs.Owned.{direct_count, double_at_second, far_at_first, inner_behind, many_pointers}
+use Rattle.inode_data.proofs.Owned.{direct_count, double_at_second, indirect_at_first, inner_behind, many_pointers}
 use Rattle.inode_data.proofs.Owned.{not_pointer, own_pointer, pass_each, placed, pointers_apart}
 use Rattle.inode_sizes.specs.Cut.{first_of, has_some, numbered, with_numbers, with_zeros}
 use Rattle.inode_sizes.specs.CutBlocks.{IsCutOf, with_pointers}
 use Rattle.inode_sizes.specs.Doubles.{row_left}
-use Rattle.inode_sizes.specs.declared.cutting.CutPointers.{CutPointers}
+use Rattle.inode_sizes.specs.declared.cuts.CutPointers.{CutPointers}
 use Rattle.inode_sizes.proofs.CutNumbers.{all_stay}
 use Rattle.inode_sizes.proofs.FirstOnes.{first-length, first_all, first_both, none_first}
 use Rattle.inode_sizes.proofs.InnersCut.{get_or-more, how_often, rows_stay}
-use Rattle.inode_sizes.proofs.ReadBack.{kept_any, kept_none, kept_passes, kept_some, numbers_else, numbers_here}
+use Rattle.inode_sizes.proofs.ReadBack.{left_over_any, left_over_none, left_over_passes, left_over_some, numbers_else, numbers_here}
 use Rattle.inode_sizes.proofs.ReadBack.{read_back, used_one, zeros_else}
 use Rattle.inode_sizes.proofs.RegularThere.{IsRegularThere, mapped, numbers, rules, was}
 
@@ -79,19 +79,19 @@ module _ (g : Geometry) (image : Image) (tree : Tree) (n : ℕ) (inode : Inode)
 
   -- ---- which pointer blocks they were
 
-  far_was : nat_eq cut.far.pointer 0 ≡ false → get_or pointers 0 0 ≡ cut.far.pointer
-  far_was some = far_at_first g image tree n inode (mapped g image tree n inode has)
-      ∙ kept_some inode.indirect cut.far.pointer cut.far.numbers.items is.far.pointer_is some
+  indirect_was : nat_eq cut.indirect_part.pointer 0 ≡ false → get_or pointers 0 0 ≡ cut.indirect_part.pointer
+  indirect_was some = indirect_at_first g image tree n inode (mapped g image tree n inode has)
+      ∙ left_over_some inode.indirect cut.indirect_part.pointer cut.indirect_part.numbers.items is.indirect_part.pointer_is some
 
   double_was : nat_eq cut.double.pointer 0 ≡ false → get_or pointers 1 0 ≡ cut.double.pointer
   double_was some = double_at_second g image tree n inode (mapped g image tree n inode has)
-      ∙ kept_some inode.double cut.double.pointer news is.further.pointer_is some
+      ∙ left_over_some inode.double cut.double.pointer news is.further.pointer_is some
 
   inner_was : (i : ℕ) → i < INDIRECT_INDEXES → nat_eq (get_or news i 0) 0 ≡ false
       → get_or olds i 0 ≡ get_or news i 0
   inner_was i less some =
       let long = olds_long in
-      kept_some (get_or olds i 0) (get_or news i 0) (left i)
+      left_over_some (get_or olds i 0) (get_or news i 0) (left i)
       (is.further.inners.numbers_are i (omega (arith, less, long))) some
 
   part_low : nat_eq cut.double.inners.part 0 ≡ false → p < INDIRECT_INDEXES
@@ -124,26 +124,26 @@ module _ (g : Geometry) (image : Image) (tree : Tree) (n : ℕ) (inode : Inode)
   left_placed : (i : ℕ) → list_all test (left i) ≡ true
   left_placed i = all_stay test (c - INDIRECT_INDEXES * i) (numbers_in content (get_or olds i 0)) (inner_placed i) refl
 
-  pub far_placed : test cut.far.pointer ≡ true
-  far_placed =
-      kept_passes test inode.indirect cut.far.pointer cut.far.numbers.items refl is.far.pointer_is pointers_placed.0
+  pub indirect_part_placed : test cut.indirect_part.pointer ≡ true
+  indirect_part_placed =
+      left_over_passes test inode.indirect cut.indirect_part.pointer cut.indirect_part.numbers.items refl is.indirect_part.pointer_is pointers_placed.0
 
   pub double_placed : test cut.double.pointer ≡ true
-  double_placed = kept_passes test inode.double cut.double.pointer news refl is.further.pointer_is pointers_placed.1
+  double_placed = left_over_passes test inode.double cut.double.pointer news refl is.further.pointer_is pointers_placed.1
 
   pub news_placed : list_all test news ≡ true
   news_placed = pass_each test news (λ i less.
       let long = is.further.inners.long in
-      kept_passes test (get_or olds i 0) (get_or news i 0) (left i) refl
+      left_over_passes test (get_or olds i 0) (get_or news i 0) (left i) refl
       (is.further.inners.numbers_are i (omega (arith, less, long))) (passes_at test olds i refl pointers_placed.2))
 
   -- what the inode names itself
-  pub near_long : length cut.near.numbers.items ≡ DIRECT_INDEXES
-  near_long = ap (λ (l : List ℕ). length l) is.near ∙ first-length k inode.direct
+  pub direct_long : length cut.direct_part.numbers.items ≡ DIRECT_INDEXES
+  direct_long = ap (λ (l : List ℕ). length l) is.direct_part ∙ first-length k inode.direct
       ∙ direct_count g image tree n inode (mapped g image tree n inode has)
 
-  pub near_placed : list_all test cut.near.numbers.items ≡ true
-  near_placed = ap (list_all test) is.near ∙ all_stay test k inode.direct numbers_placed.0 refl
+  pub direct_placed : list_all test cut.direct_part.numbers.items ≡ true
+  direct_placed = ap (list_all test) is.direct_part ∙ all_stay test k inode.direct numbers_placed.0 refl
 
   pub double_allowed : (nat_eq cut.double.pointer 0 || has_double g.version) ≡ true
   double_allowed = by_test (has_some news) is.further.pointer_is
@@ -163,9 +163,9 @@ module _ (g : Geometry) (image : Image) (tree : Tree) (n : ℕ) (inode : Inode)
       (own_pointer g image tree n inode (mapped g image tree n inode has) i (omega (arith, less, long))
       (ap (λ q. nat_eq q 0) at_i ∙ some))
 
-  pub far_own : nat_eq cut.far.pointer 0 ≡ false
-      → 1 ≤ how_often cut.far.pointer (owned_by content (Ok (Some inode)))
-  far_own some = own_pointer_at 0 cut.far.pointer (omega arith) (far_was some) some
+  pub indirect_own : nat_eq cut.indirect_part.pointer 0 ≡ false
+      → 1 ≤ how_often cut.indirect_part.pointer (owned_by content (Ok (Some inode)))
+  indirect_own some = own_pointer_at 0 cut.indirect_part.pointer (omega arith) (indirect_was some) some
 
   pub double_own : nat_eq cut.double.pointer 0 ≡ false
       → 1 ≤ how_often cut.double.pointer (owned_by content (Ok (Some inode)))
@@ -187,15 +187,15 @@ module _ (g : Geometry) (image : Image) (tree : Tree) (n : ℕ) (inode : Inode)
     after = with_pointers zs cut
 
     -- what is no pointer block that is written
-    pub unwritten : (b : ℕ) → (nat_eq cut.far.pointer 0 ≡ false → b ≡ cut.far.pointer → ⊥)
+    pub unwritten : (b : ℕ) → (nat_eq cut.indirect_part.pointer 0 ≡ false → b ≡ cut.indirect_part.pointer → ⊥)
         → (nat_eq cut.double.inners.part 0 ≡ false → b ≡ cut.double.inners.part → ⊥)
         → (nat_eq cut.double.pointer 0 ≡ false → b ≡ cut.double.pointer → ⊥) → after b ≡ zs b
-    unwritten b not_far not_part not_double =
-        numbers_else (with_numbers (with_numbers zs cut.far.pointer cut.far.numbers.items) cut.double.inners.part
+    unwritten b not_indirect not_part not_double =
+        numbers_else (with_numbers (with_numbers zs cut.indirect_part.pointer cut.indirect_part.numbers.items) cut.double.inners.part
         cut.double.inners.part_numbers.items) cut.double.pointer news b not_double
-        ∙ numbers_else (with_numbers zs cut.far.pointer cut.far.numbers.items) cut.double.inners.part
+        ∙ numbers_else (with_numbers zs cut.indirect_part.pointer cut.indirect_part.numbers.items) cut.double.inners.part
         cut.double.inners.part_numbers.items b not_part
-        ∙ numbers_else zs cut.far.pointer cut.far.numbers.items b not_far
+        ∙ numbers_else zs cut.indirect_part.pointer cut.indirect_part.numbers.items b not_indirect
 
     pointers_long : length pointers ≡ 2 + INDIRECT_INDEXES
     pointers_long = many_pointers g image tree n inode (mapped g image tree n inode has)
@@ -225,38 +225,38 @@ module _ (g : Geometry) (image : Image) (tree : Tree) (n : ℕ) (inode : Inode)
         → after (get_or all j 0) ≡ zs (get_or all j 0)
     number_unwritten j less some =
         unwritten (get_or all j 0)
-        (λ some_b same. number_differs 0 j (omega arith) less cut.far.pointer (far_was some_b) some same)
+        (λ some_b same. number_differs 0 j (omega arith) less cut.indirect_part.pointer (indirect_was some_b) some same)
         (λ some_b same. let few = part_low some_b in
         number_differs (2 + p) j (omega (arith, few)) less cut.double.inners.part (part_was some_b) some same)
         (λ some_b same. number_differs 1 j (omega arith) less cut.double.pointer (double_was some_b) some same)
 
-    far_written : nat_eq cut.far.pointer 0 ≡ false → after cut.far.pointer ≡ number_bytes cut.far.numbers.items
-    far_written some =
-        numbers_else (with_numbers (with_numbers zs cut.far.pointer cut.far.numbers.items) cut.double.inners.part
-        cut.double.inners.part_numbers.items) cut.double.pointer news cut.far.pointer
-        (λ some_b same. differ 0 1 (λ e. omega (arith, e)) (omega arith) (omega arith) cut.far.pointer
-        cut.double.pointer (far_was some) (double_was some_b) some_b same)
-        ∙ numbers_else (with_numbers zs cut.far.pointer cut.far.numbers.items) cut.double.inners.part
-        cut.double.inners.part_numbers.items cut.far.pointer
+    indirect_written : nat_eq cut.indirect_part.pointer 0 ≡ false → after cut.indirect_part.pointer ≡ number_bytes cut.indirect_part.numbers.items
+    indirect_written some =
+        numbers_else (with_numbers (with_numbers zs cut.indirect_part.pointer cut.indirect_part.numbers.items) cut.double.inners.part
+        cut.double.inners.part_numbers.items) cut.double.pointer news cut.indirect_part.pointer
+        (λ some_b same. differ 0 1 (λ e. omega (arith, e)) (omega arith) (omega arith) cut.indirect_part.pointer
+        cut.double.pointer (indirect_was some) (double_was some_b) some_b same)
+        ∙ numbers_else (with_numbers zs cut.indirect_part.pointer cut.indirect_part.numbers.items) cut.double.inners.part
+        cut.double.inners.part_numbers.items cut.indirect_part.pointer
         (λ some_b same. let few = part_low some_b in
-        differ 0 (2 + p) (λ e. omega (arith, e)) (omega arith) (omega (arith, few)) cut.far.pointer
-        cut.double.inners.part (far_was some) (part_was some_b) some_b same)
-        ∙ numbers_here zs cut.far.pointer cut.far.numbers.items some
+        differ 0 (2 + p) (λ e. omega (arith, e)) (omega arith) (omega (arith, few)) cut.indirect_part.pointer
+        cut.double.inners.part (indirect_was some) (part_was some_b) some_b same)
+        ∙ numbers_here zs cut.indirect_part.pointer cut.indirect_part.numbers.items some
 
     part_written : nat_eq cut.double.inners.part 0 ≡ false
         → after cut.double.inners.part ≡ number_bytes cut.double.inners.part_numbers.items
     part_written some =
-        numbers_else (with_numbers (with_numbers zs cut.far.pointer cut.far.numbers.items) cut.double.inners.part
+        numbers_else (with_numbers (with_numbers zs cut.indirect_part.pointer cut.indirect_part.numbers.items) cut.double.inners.part
         cut.double.inners.part_numbers.items) cut.double.pointer news cut.double.inners.part
         (λ some_b same. let few = part_low some in
         differ (2 + p) 1 (λ e. omega (arith, e)) (omega (arith, few)) (omega arith) cut.double.inners.part
         cut.double.pointer (part_was some) (double_was some_b) some_b same)
-        ∙ numbers_here (with_numbers zs cut.far.pointer cut.far.numbers.items) cut.double.inners.part
+        ∙ numbers_here (with_numbers zs cut.indirect_part.pointer cut.indirect_part.numbers.items) cut.double.inners.part
         cut.double.inners.part_numbers.items some
 
     double_written : nat_eq cut.double.pointer 0 ≡ false → after cut.double.pointer ≡ number_bytes news
     double_written some =
-        numbers_here (with_numbers (with_numbers zs cut.far.pointer cut.far.numbers.items) cut.double.inners.part
+        numbers_here (with_numbers (with_numbers zs cut.indirect_part.pointer cut.indirect_part.numbers.items) cut.double.inners.part
         cut.double.inners.part_numbers.items) cut.double.pointer news some
 
     -- another inner block
@@ -265,7 +265,7 @@ module _ (g : Geometry) (image : Image) (tree : Tree) (n : ℕ) (inode : Inode)
     inner_same i less other some =
         unwritten (get_or olds i 0)
         (λ some_b same. differ (2 + i) 0 (λ e. omega (arith, e)) (omega (arith, less)) (omega arith) (get_or olds i 0)
-        cut.far.pointer there (far_was some_b) some_b same)
+        cut.indirect_part.pointer there (indirect_was some_b) some_b same)
         (λ some_b same. let few = part_low some_b in
         differ (2 + i) (2 + p) (λ e. other (omega (arith, e))) (omega (arith, less)) (omega (arith, few))
         (get_or olds i 0) cut.double.inners.part there (part_was some_b) some_b same)
@@ -279,28 +279,28 @@ module _ (g : Geometry) (image : Image) (tree : Tree) (n : ℕ) (inode : Inode)
 
     -- ---- the numbers in them
 
-    far_read : numbers_in after cut.far.pointer ≡ cut.far.numbers.items
-    far_read =
-        read_back g after cut.far.pointer cut.far.numbers.items
-        (ap (λ (l : List ℕ). length l) is.far.numbers_are
+    indirect_read : numbers_in after cut.indirect_part.pointer ≡ cut.indirect_part.numbers.items
+    indirect_read =
+        read_back g after cut.indirect_part.pointer cut.indirect_part.numbers.items
+        (ap (λ (l : List ℕ). length l) is.indirect_part.numbers_are
         ∙ first-length (k - DIRECT_INDEXES) (numbers_in content inode.indirect) ∙ in_length content inode.indirect)
-        (ap (list_all test) is.far.numbers_are
+        (ap (list_all test) is.indirect_part.numbers_are
         ∙ all_stay test (k - DIRECT_INDEXES) (numbers_in content inode.indirect) numbers_placed.1 refl)
-        far_written
-        (kept_none inode.indirect cut.far.pointer cut.far.numbers.items is.far.pointer_is
-        (λ none. ap has_some is.far.numbers_are ∙ empty_in content inode.indirect (k - DIRECT_INDEXES) none))
+        indirect_written
+        (left_over_none inode.indirect cut.indirect_part.pointer cut.indirect_part.numbers.items is.indirect_part.pointer_is
+        (λ none. ap has_some is.indirect_part.numbers_are ∙ empty_in content inode.indirect (k - DIRECT_INDEXES) none))
 
     left_empty : (i : ℕ) → i < INDIRECT_INDEXES → nat_eq (get_or news i 0) 0 ≡ true → has_some (left i) ≡ false
     left_empty i less =
         let long = olds_long in
-        kept_none (get_or olds i 0) (get_or news i 0) (left i)
+        left_over_none (get_or olds i 0) (get_or news i 0) (left i)
         (is.further.inners.numbers_are i (omega (arith, less, long)))
         (λ none. empty_in content (get_or olds i 0) (c - INDIRECT_INDEXES * i) none)
 
     left_some : (i : ℕ) → i < INDIRECT_INDEXES → nat_eq (get_or news i 0) 0 ≡ false → has_some (left i) ≡ true
     left_some i less =
         let long = olds_long in
-        kept_any (get_or olds i 0) (get_or news i 0) (left i)
+        left_over_any (get_or olds i 0) (get_or news i 0) (left i)
         (is.further.inners.numbers_are i (omega (arith, less, long)))
 
     -- nothing stays behind the cut
@@ -374,7 +374,7 @@ module _ (g : Geometry) (image : Image) (tree : Tree) (n : ℕ) (inode : Inode)
     top_read : numbers_in after cut.double.pointer ≡ news
     top_read =
         read_back g after cut.double.pointer news news_long news_placed double_written
-        (kept_none inode.double cut.double.pointer news is.further.pointer_is no_inner)
+        (left_over_none inode.double cut.double.pointer news is.further.pointer_is no_inner)
       where
         no_inner : nat_eq inode.double 0 ≡ true → has_some news ≡ false
         no_inner none = all_zero news (λ i less.
@@ -403,40 +403,40 @@ module _ (g : Geometry) (image : Image) (tree : Tree) (n : ℕ) (inode : Inode)
 
     module _ (shown : Inode) (size : ℕ) where
       abbrev pub new : Inode
-      new = numbered shown size cut.near.numbers.items cut.far.pointer cut.double.pointer
+      new = numbered shown size cut.direct_part.numbers.items cut.indirect_part.pointer cut.double.pointer
 
-      pub all_left : first_of k all ≡ cut.near.numbers.items ++ cut.far.numbers.items
+      pub all_left : first_of k all ≡ cut.direct_part.numbers.items ++ cut.indirect_part.numbers.items
           ++ first_of c (doubled_in content inode.double)
       all_left =
           let eight = direct_count g image tree n inode (mapped g image tree n inode has) in
           let wide = in_length content inode.indirect in
-          let near = length-append inode.direct (numbers_in content inode.indirect) in
+          let direct_part = length-append inode.direct (numbers_in content inode.indirect) in
           let past : k - length (inode.direct ++ numbers_in content inode.indirect) ≡ c =
-          omega (arith, near, wide, eight) in
+          omega (arith, direct_part, wide, eight) in
           let behind : k - length inode.direct ≡ k - DIRECT_INDEXES = omega (arith, eight) in
           ap (first_of k) (in_parts content inode)
           ∙ first_both k (inode.direct ++ numbers_in content inode.indirect) (doubled_in content inode.double)
           ∙ (λ i. first_both k inode.direct (numbers_in content inode.indirect) i
           ++ first_of (past i) (doubled_in content inode.double))
-          ∙ (λ i. sym is.near i ++ (ap (λ m. first_of m (numbers_in content inode.indirect)) behind
-          ∙ sym is.far.numbers_are) i ++ first_of c (doubled_in content inode.double))
+          ∙ (λ i. sym is.direct_part i ++ (ap (λ m. first_of m (numbers_in content inode.indirect)) behind
+          ∙ sym is.indirect_part.numbers_are) i ++ first_of c (doubled_in content inode.double))
 
       pub numbers_now : numbers_of after new ≡ first_of k all
       numbers_now =
           in_parts after new
-          ∙ (λ i. cut.near.numbers.items ++ far_read i ++ doubled_now i) ∙ sym all_left
+          ∙ (λ i. cut.direct_part.numbers.items ++ indirect_read i ++ doubled_now i) ∙ sym all_left
 
-      pub pointers_now : pointer_blocks after new ≡ cut.far.pointer ∷ cut.double.pointer ∷ news
+      pub pointers_now : pointer_blocks after new ≡ cut.indirect_part.pointer ∷ cut.double.pointer ∷ news
       pointers_now =
-          pointers_are after new ∙ ap (λ l. cut.far.pointer ∷ cut.double.pointer ∷ l) top_read
+          pointers_are after new ∙ ap (λ l. cut.indirect_part.pointer ∷ cut.double.pointer ∷ l) top_read
 
       pub pointers_used : list_all (is_used_pointer after) (pointer_blocks after new) ≡ true
       pointers_used =
           pass_pointers after new (is_used_pointer after)
-          (used_one after cut.far.pointer cut.far.numbers.items far_read
-          (kept_any inode.indirect cut.far.pointer cut.far.numbers.items is.far.pointer_is))
+          (used_one after cut.indirect_part.pointer cut.indirect_part.numbers.items indirect_read
+          (left_over_any inode.indirect cut.indirect_part.pointer cut.indirect_part.numbers.items is.indirect_part.pointer_is))
           (used_one after cut.double.pointer news top_read
-          (kept_any inode.double cut.double.pointer news is.further.pointer_is))
+          (left_over_any inode.double cut.double.pointer news is.further.pointer_is))
           (ap (list_all (is_used_pointer after)) top_read
           ∙ pass_each (is_used_pointer after) news (λ i less.
           let long = news_long in
@@ -445,4 +445,4 @@ module _ (g : Geometry) (image : Image) (tree : Tree) (n : ℕ) (inode : Inode)
 
       pub all_pointers_placed : list_all test (pointer_blocks after new) ≡ true
       all_pointers_placed =
-          pass_pointers after new test far_placed double_placed (ap (list_all test) top_read ∙ news_placed)
+          pass_pointers after new test indirect_part_placed double_placed (ap (list_all test) top_read ∙ news_placed)

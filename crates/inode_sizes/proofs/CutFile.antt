@@ -24,11 +24,11 @@ use Rattle.layout.specs.Owners.{owned_by}
 use Rattle.layout.specs.Parts.{content_in}
 use Rattle.layout.proofs.Used.{regular_held}
 use Rattle.inode.proofs.AllTests.{all_three, all_two}
-use Rattle.inode.specs.Drafts.Attributes.{attributed}
+use Rattle.inode.specs.WriteSets.Attributes.{attributed}
 use Rattle.inode_data.proofs.Owned.{numbers_apart, own_number}
 use Rattle.inode_sizes.specs.Cut.{count_before, first_of, last_of, left_in, with_zeros, zeroed}
 use Rattle.inode_sizes.specs.CutBlocks.{IsCutOf}
-use Rattle.inode_sizes.specs.declared.cutting.CutPointers.{CutPointers}
+use Rattle.inode_sizes.specs.declared.cuts.CutPointers.{CutPointers}
 use Rattle.inode_sizes.proofs.CutBytes.{cut_bytes}
 use Rattle.inode_sizes.proofs.CutContent as cuts
 use Rattle.inode_sizes.proofs.CutNumbers.{all_stay, before, past, still_mapped}
@@ -66,8 +66,8 @@ module _ (g : Geometry) (image : Image) (tree : Tree) (n : ℕ) (inode : Inode) 
   abbrev pub k : ℕ
   k = count_before size
 
-  abbrev pub kept : List ℕ
-  kept = first_of k numbers
+  abbrev pub left_over : List ℕ
+  left_over = first_of k numbers
 
   abbrev pub last : ℕ
   last = last_of k numbers
@@ -91,7 +91,7 @@ module _ (g : Geometry) (image : Image) (tree : Tree) (n : ℕ) (inode : Inode) 
   last_is : (j : ℕ) → suc j ≡ k → last ≡ get_or numbers j 0
   last_is j same =
       let there : k - 1 ≡ j = omega (arith, same) in
-      ap (λ q. get_or kept q 0) there ∙ before numbers k low j (omega (arith, same))
+      ap (λ q. get_or left_over q 0) there ∙ before numbers k low j (omega (arith, same))
 
   some_last : nat_eq last 0 ≡ false → 0 < k
   some_last some = elim (cases_lt 0 k) [
@@ -115,8 +115,8 @@ module _ (g : Geometry) (image : Image) (tree : Tree) (n : ℕ) (inode : Inode) 
   pub outside : (b : ℕ) → how_often b (owned_by content (Ok (Some inode))) ≡ 0 → after b ≡ content b
   outside b none =
       cuts.unwritten g image tree n inode has k cut is last (left_in size) (k - 1) at_low last_there b
-      (λ some same. not_own b cut.far.pointer none same
-      (cuts.far_own g image tree n inode has k cut is some))
+      (λ some same. not_own b cut.indirect_part.pointer none same
+      (cuts.indirect_own g image tree n inode has k cut is some))
       (λ some same. not_own b cut.double.inners.part none same
       (cuts.part_own g image tree n inode has k cut is some))
       (λ some same. not_own b cut.double.pointer none same
@@ -196,14 +196,14 @@ module _ (g : Geometry) (image : Image) (tree : Tree) (n : ℕ) (inode : Inode) 
   abbrev all : List ℕ
   all = bytes_of content numbers
 
-  bytes_now : bytes_of after kept ≡ take size all ++ replicate (BLOCK_BYTES * length numbers - size) 0
+  bytes_now : bytes_of after left_over ≡ take size all ++ replicate (BLOCK_BYTES * length numbers - size) 0
   unfolding bytes_of
   bytes_now = cut_bytes (content_of content) (content_of after) refl one_long numbers k size low (omega arith)
       (omega arith) others at_end
 
   -- ---- its numbers
 
-  placed : list_all (is_data_block_or_none g) kept ≡ true
+  placed : list_all (is_data_block_or_none g) left_over ≡ true
   placed = all_stay (is_data_block_or_none g) k numbers (file.rules g image tree n inode has).mapped.numbers refl
 
   module _ (looks : Inode) where
@@ -213,7 +213,7 @@ module _ (g : Geometry) (image : Image) (tree : Tree) (n : ℕ) (inode : Inode) 
     abbrev pub new : Inode
     new = cuts.new g image tree n inode has k cut is last (left_in size) (k - 1) at_low last_there shown size
 
-    pub numbers_now : numbers_of after new ≡ kept
+    pub numbers_now : numbers_of after new ≡ left_over
     numbers_now =
         cuts.numbers_now g image tree n inode has k cut is last (left_in size) (k - 1) at_low last_there shown size
 
@@ -223,8 +223,8 @@ module _ (g : Geometry) (image : Image) (tree : Tree) (n : ℕ) (inode : Inode) 
 
     -- ---- its rules
 
-    eight : length cut.near.numbers.items ≡ DIRECT_INDEXES
-    eight = cuts.near_long g image tree n inode has k cut is
+    eight : length cut.direct_part.numbers.items ≡ DIRECT_INDEXES
+    eight = cuts.direct_long g image tree n inode has k cut is
 
     abbrev whole_size : ℕ
     whole_size = BLOCK_BYTES * length numbers
@@ -269,8 +269,8 @@ module _ (g : Geometry) (image : Image) (tree : Tree) (n : ℕ) (inode : Inode) 
         let old = subst (λ kind. is_sound_kind g kind shown ≡ true) has.regular sound.good in
         let three = all_three (is_sound_file shown) (is_sound_map g shown) (is_sound_regular shown) old in
         let two = all_two (nat_le shown.size LARGEST_FILE) (nat_eq shown.parent 0) three.2 in
-        let first = cuts.near_placed g image tree n inode has k cut is in
-        let far_is_placed = cuts.far_placed g image tree n inode has k cut is in
+        let first = cuts.direct_placed g image tree n inode has k cut is in
+        let is_indirect_placed = cuts.indirect_part_placed g image tree n inode has k cut is in
         let double_is_placed = cuts.double_placed g image tree n inode has k cut is in
         let allowed = cuts.double_allowed g image tree n inode has k cut is in
         let most = file.size_fits g image tree n inode has in
@@ -289,12 +289,12 @@ module _ (g : Geometry) (image : Image) (tree : Tree) (n : ℕ) (inode : Inode) 
             parent = sound.fits.parent;
             verifier = sound.fits.verifier;
             count = eight;
-            direct = small_all g cut.near.numbers.items first;
-            indirect = small_one g (nat_eq cut.far.pointer 0) cut.far.pointer refl far_is_placed;
+            direct = small_all g cut.direct_part.numbers.items first;
+            indirect = small_one g (nat_eq cut.indirect_part.pointer 0) cut.indirect_part.pointer refl is_indirect_placed;
             double = small_one g (nat_eq cut.double.pointer 0) cut.double.pointer refl double_is_placed;
           };
           good = subst (λ kind. is_sound_kind g kind new ≡ true) (sym has.regular)
-              (λ i. three.0 i && (first i && far_is_placed i && double_is_placed i && allowed i)
+              (λ i. three.0 i && (first i && is_indirect_placed i && double_is_placed i && allowed i)
               && (le-leb size LARGEST_FILE (omega (arith, most, less)) i && two.1 i));
         }
 
@@ -343,7 +343,7 @@ module _ (g : Geometry) (image : Image) (tree : Tree) (n : ℕ) (inode : Inode) 
         ≡ with_length (Some size) (body_of g.inodes content kind shown)) (sym has.regular) cut_body
 
     pub cost_now : cost (with_length (Some size) (body_of g.inodes content shown.kind shown))
-        ≡ cut.near.count + cut.far.used + cut.double.used
+        ≡ cut.direct_part.count + cut.indirect_part.used + cut.double.used
     cost_now =
         sym (ap cost body_now) ∙ ap (λ kind. cost (body_of g.inodes after kind new)) has.regular
         ∙ regular_held g after new eight is_mapped

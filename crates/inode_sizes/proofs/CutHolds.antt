@@ -19,12 +19,12 @@ use Rattle.layout.proofs.OnGrid.{data_within}
 use Rattle.inode.specs.Shown.{body_in}
 use Rattle.bitmap.proofs.Gained.{all_so}
 use Rattle.bitmap.proofs.Held.{are_data}
-use Rattle.inode.specs.Drafts.Attributes.{attributed}
+use Rattle.inode.specs.WriteSets.Attributes.{attributed}
 use Rattle.bitmap.specs.Inodes.Frees.{without}
 use Rattle.bitmap.proofs.InodesLemmas.Without.{held_by}
 use Rattle.inode_sizes.specs.Cut.{count_before, last_of, left_in, numbered}
 use Rattle.inode_sizes.specs.CutBlocks.{IsCut, IsCutOf}
-use Rattle.inode_sizes.specs.declared.cutting.CutPointers.{CutPointers}
+use Rattle.inode_sizes.specs.declared.cuts.CutPointers.{CutPointers}
 use Rattle.inode_sizes.proofs.CutFile.{after, body_now, fewer, new, outside, rules}
 use Rattle.inode_sizes.proofs.RegularThere.{IsRegularThere}
 use Rattle.inode_sizes.proofs.Shrunk.{shrunk}
@@ -46,7 +46,7 @@ module _ (g : Geometry) (image : Image) (tree : Tree) (n : ℕ) (inode : Inode) 
 
   module _ (looks : Inode) (final : Image)
       (cuts : IsCut g n
-      (numbered (attributed inode looks) size cut.near.numbers.items cut.far.pointer cut.double.pointer)
+      (numbered (attributed inode looks) size cut.direct_part.numbers.items cut.indirect_part.pointer cut.double.pointer)
       (last_of (count_before size) (numbers_of (content_in g image) inode)) (left_in size) cut image final) where
     abbrev old : Inode
     old = attributed inode looks

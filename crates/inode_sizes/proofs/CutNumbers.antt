@@ -126,16 +126,16 @@ still_mapped numbers size low =
     at q = elim (cases_lt q (length numbers)) [
       | inl inside ↦
           is_mapped (first_of (count_before size) numbers) q (let count = long in omega (arith, count, inside))
-          ∙ by_place q
+          ∙ by_index_within q
           ∙ (λ i. sym (is_mapped numbers q inside) i && first_indexes size q i)
       | inr outside ↦
           none_mapped (first_of (count_before size) numbers) q (let count = long in omega (arith, count, outside))
           ∙ sym (ap (λ t. t && nat_lt (q * BLOCK_BYTES) size) (none_mapped numbers q outside))
     ]
       where
-        by_place : (q : ℕ) → is_some (get_or (first_of (count_before size) numbers) q 0)
+        by_index_within : (q : ℕ) → is_some (get_or (first_of (count_before size) numbers) q 0)
             ≡ (is_some (get_or numbers q 0) && nat_lt q (count_before size))
-        by_place q = elim (cases_lt q (count_before size)) [
+        by_index_within q = elim (cases_lt q (count_before size)) [
           | inl less ↦ ap is_some (before numbers (count_before size) low q less)
               ∙ sym (ap (λ t. is_some (get_or numbers q 0) && t) (lt-ltb q (count_before size) less)
               ∙ both_true (is_some (get_or numbers q 0)))

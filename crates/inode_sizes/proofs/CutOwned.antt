@@ -14,9 +14,9 @@ use Rattle.layout.proofs.FileNumbers.{in_parts, pointers_are}
 use Rattle.inode_sizes.specs.Cut.{first_of, is_some, lost}
 use Rattle.inode_sizes.specs.CutBlocks.{IsCutOf}
 use Rattle.inode_sizes.specs.Doubles.{times}
-use Rattle.inode_sizes.specs.declared.cutting.CutPointers.{CutPointers}
+use Rattle.inode_sizes.specs.declared.cuts.CutPointers.{CutPointers}
 use Rattle.inode_sizes.proofs.CutContent.{after, all_left, new, numbers_now, pointers_now}
-use Rattle.inode_sizes.proofs.FirstOnes.{count_both, count_first, kept_or_lost, parted, times_both, times_first}
+use Rattle.inode_sizes.proofs.FirstOnes.{count_both, count_first, left_over_or_lost, parted, times_both, times_first}
 use Rattle.inode_sizes.proofs.InnersCut.{how_often, often_both, row_parted}
 use Rattle.inode_sizes.proofs.RegularThere.{IsRegularThere, numbers, was}
 
@@ -67,7 +67,7 @@ module _ (g : Geometry) (image : Image) (tree : Tree) (n : ℕ) (inode : Inode)
   double_gone q =
       let one = ap (how_often q) is.further.gone_are
       ∙ often_both q is.further.between (filter is_some (lost inode.double news ∷ [])) in
-      let two = kept_or_lost q inode.double news in
+      let two = left_over_or_lost q inode.double news in
       let three = ap (λ x. times q (x ∷ [])) is.further.pointer_is in omega (arith, one, two, three)
 
   module _ (last from at : ℕ) (low : at < length all)
@@ -81,7 +81,7 @@ module _ (g : Geometry) (image : Image) (tree : Tree) (n : ℕ) (inode : Inode)
     numbers_are : numbers_of behind now ≡ first_of k all
     numbers_are = numbers_now g image tree n inode has k cut is last from at low last_is shown size
 
-    pointers_are_now : pointer_blocks behind now ≡ cut.far.pointer ∷ cut.double.pointer ∷ news
+    pointers_are_now : pointer_blocks behind now ≡ cut.indirect_part.pointer ∷ cut.double.pointer ∷ news
     pointers_are_now = pointers_now g image tree n inode has k cut is last from at low last_is shown size
 
     pub fewer : (q : ℕ) → how_often q (owned_by behind (Ok (Some now))) + how_often q cut.gone.items
@@ -92,16 +92,16 @@ module _ (g : Geometry) (image : Image) (tree : Tree) (n : ℕ) (inode : Inode)
         ∙ in_pointers q inode.indirect inode.double (numbers_in content inode.double) in
         let was_numbers = in_all q content inode in
         let now_all = times_both q (pointer_blocks behind now) (numbers_of behind now) in
-        let now_pointers = ap (times q) pointers_are_now ∙ in_pointers q cut.far.pointer cut.double.pointer news in
+        let now_pointers = ap (times q) pointers_are_now ∙ in_pointers q cut.indirect_part.pointer cut.double.pointer news in
         let stay = ap (times q) numbers_are in
-        let near = parted q k inode.direct in
-        let far = row_parted q inode.indirect (numbers_in content inode.indirect) (k - DIRECT_INDEXES)
-        (filter is_some (drop k inode.direct)) cut.far.pointer cut.far.numbers.items cut.far.used is.between is.far in
+        let direct_part = parted q k inode.direct in
+        let indirect_part = row_parted q inode.indirect (numbers_in content inode.indirect) (k - DIRECT_INDEXES)
+        (filter is_some (drop k inode.direct)) cut.indirect_part.pointer cut.indirect_part.numbers.items cut.indirect_part.used is.between is.indirect_part in
         let inner = inners_gone q in
         let double = double_gone q in
-        let parts = kept_parts in
-        let near_is = ap (times q) is.near in
-        let far_is = ap (times q) is.far.numbers_are in
+        let parts = left_over_parts in
+        let direct_is = ap (times q) is.direct_part in
+        let indirect_is = ap (times q) is.indirect_part.numbers_are in
         omega (
           arith,
           was_all,
@@ -110,35 +110,35 @@ module _ (g : Geometry) (image : Image) (tree : Tree) (n : ℕ) (inode : Inode)
           now_all,
           now_pointers,
           stay,
-          near,
-          far,
+          direct_part,
+          indirect_part,
           inner,
           double,
           parts,
-          near_is,
-          far_is,
+          direct_is,
+          indirect_is,
         )
       where
-        kept_parts : times q (first_of k all)
-            ≡ times q cut.near.numbers.items + times q cut.far.numbers.items + times q (first_of c doubled)
-        kept_parts =
+        left_over_parts : times q (first_of k all)
+            ≡ times q cut.direct_part.numbers.items + times q cut.indirect_part.numbers.items + times q (first_of c doubled)
+        left_over_parts =
             let one = ap (times q) (all_left g image tree n inode has k cut is last from at low last_is shown size)
-            ∙ times_both q (cut.near.numbers.items ++ cut.far.numbers.items) (first_of c doubled) in
-            let two = times_both q cut.near.numbers.items cut.far.numbers.items in omega (arith, one, two)
+            ∙ times_both q (cut.direct_part.numbers.items ++ cut.indirect_part.numbers.items) (first_of c doubled) in
+            let two = times_both q cut.direct_part.numbers.items cut.indirect_part.numbers.items in omega (arith, one, two)
 
     -- as many as were counted
     pub counted : count_of (numbers_of behind now) + count_of (pointer_blocks behind now)
-        ≡ cut.near.count + cut.far.used + cut.double.used
+        ≡ cut.direct_part.count + cut.indirect_part.used + cut.double.used
     counted =
         let one = ap (λ (l : List ℕ). count_by is_some l) (numbers_are
         ∙ all_left g image tree n inode has k cut is last from at low last_is shown size)
-        ∙ count_both (cut.near.numbers.items ++ cut.far.numbers.items) (first_of c doubled) in
-        let two = count_both cut.near.numbers.items cut.far.numbers.items in
+        ∙ count_both (cut.direct_part.numbers.items ++ cut.indirect_part.numbers.items) (first_of c doubled) in
+        let two = count_both cut.direct_part.numbers.items cut.indirect_part.numbers.items in
         let three = ap (λ (l : List ℕ). count_by is_some l) pointers_are_now
-        ∙ count_first cut.far.pointer (cut.double.pointer ∷ news) in
+        ∙ count_first cut.indirect_part.pointer (cut.double.pointer ∷ news) in
         let four = count_first cut.double.pointer news in
         let five = inners_used in
-        let near = is.near_count in
-        let far = is.far.used_is in
+        let direct_part = is.direct_part_count in
+        let indirect_part = is.indirect_part.used_is in
         let double = is.further.used_is in
-        omega (arith, one, two, three, four, five, near, far, double)
+        omega (arith, one, two, three, four, five, direct_part, indirect_part, double)

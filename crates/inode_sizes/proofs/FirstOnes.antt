@@ -7,7 +7,7 @@ use Rattle.std.proofs.lemmas.Bool.Decides.{nat_tests}
 use Rattle.std.proofs.lemmas.List.{length-replicate, take-append-drop, take_all}
 use Rattle.std.proofs.lemmas.List.Elements.{filter-append}
 use Rattle.std.proofs.lemmas.List.Sums.{sum_by-append, sum_by-cons}
-use Rattle.inode_sizes.specs.Cut.{first_of, has_some, is_some, kept, lost, one_of}
+use Rattle.inode_sizes.specs.Cut.{first_of, has_some, is_some, left_over, lost, one_of}
 use Rattle.inode_sizes.specs.Doubles.{times}
 
 pub more_zeros : (a b : ℕ) → replicate {A = ℕ} a 0 ++ replicate b 0 ≡ replicate (a + b) 0
@@ -156,8 +156,8 @@ none_counted (x ∷ l) none =
     let all = count_first x l in omega (arith, first, rest, all)
 
 -- the block that holds them
-pub kept_is : (pointer : ℕ) (l : List ℕ) → cond (nat_eq (count_by is_some l) 0) 0 pointer ≡ kept pointer l
-kept_is pointer l = ap (λ t. cond t 0 pointer) (count_none l) ∙ turned (has_some l)
+pub left_over_is : (pointer : ℕ) (l : List ℕ) → cond (nat_eq (count_by is_some l) 0) 0 pointer ≡ left_over pointer l
+left_over_is pointer l = ap (λ t. cond t 0 pointer) (count_none l) ∙ turned (has_some l)
   where
     turned : (t : Bool) → cond (not t) 0 pointer ≡ cond t pointer 0
     turned true = refl
@@ -189,9 +189,9 @@ parted q k l =
     omega (arith, stay, none, all, whole)
 
 -- the block is kept or lost
-pub kept_or_lost : (q pointer : ℕ) (l : List ℕ)
-    → times q (kept pointer l ∷ []) + times q (lost pointer l ∷ []) ≡ times q (pointer ∷ [])
-kept_or_lost q pointer l = by_test (has_some l)
+pub left_over_or_lost : (q pointer : ℕ) (l : List ℕ)
+    → times q (left_over pointer l ∷ []) + times q (lost pointer l ∷ []) ≡ times q (pointer ∷ [])
+left_over_or_lost q pointer l = by_test (has_some l)
   where
     by_test : (t : Bool)
         → times q (cond t pointer 0 ∷ []) + times q (cond t 0 pointer ∷ []) ≡ times q (pointer ∷ [])

@@ -32,9 +32,9 @@ use Rattle.inode.proofs.AllTests.{all_three, all_two, same_number}
 use Rattle.inode.proofs.FileSizes.{bytes-length, regular_size}
 use Rattle.inode.proofs.InodeThere.{is_of_kind, is_read, long}
 use Rattle.inode.specs.Shown.{body_in}
-use Rattle.inode.specs.Drafts.Attributes.{attributed}
-use Rattle.inode.proofs.DraftsLemmas.Marks.{times}
-use Rattle.inode.proofs.DraftsLemmas.OneFile.{blocks_still}
+use Rattle.inode.specs.WriteSets.Attributes.{attributed}
+use Rattle.inode.proofs.WriteSetsLemmas.Marks.{times}
+use Rattle.inode.proofs.WriteSetsLemmas.OneFile.{blocks_still}
 use Rattle.bitmap.proofs.InodesLemmas.Cleared.{on_disk}
 use Rattle.layout.proofs.AllNumbers.{all-length}
 use Rattle.inode_sizes.proofs.Shrunk.{shrunk}
@@ -159,9 +159,9 @@ other_length g image inode size kinds.Link is other =
     subst (λ k. body_of g.inodes (content_in g image) k inode
     ≡ with_length (Some size) (body_of g.inodes (content_in g image) k inode)) (sym is) refl
 
-pub keeps_length : (g : Geometry) (image : Image) (inode : Inode) (size : ℕ)
+pub preserves_length : (g : Geometry) (image : Image) (inode : Inode) (size : ℕ)
     → is_regular_kind inode.kind ≡ false → body_in g image inode ≡ with_length (Some size) (body_in g image inode)
-keeps_length g image inode size other = other_length g image inode size inode.kind refl other
+preserves_length g image inode size other = other_length g image inode size inode.kind refl other
 
 module _ (g : Geometry) (image : Image) (tree : Tree) (n : ℕ) (inode looks : Inode) (size : ℕ)
     (holds : Holds g image tree) (less : n < g.inodes) (read : inode_at g image n ≡ Ok (Some inode))

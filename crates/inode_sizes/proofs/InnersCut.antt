@@ -7,10 +7,10 @@ use Rattle.std.proofs.lemmas.Bool.{cases_lt, eq-eqb}
 use Rattle.std.proofs.lemmas.Grind.{flat_map-append}
 use Rattle.std.proofs.lemmas.List.{get_or_append_left, get_or_past, get_or_push}
 use Rattle.std.proofs.lemmas.List.Sums.{sum_by-append}
-use Rattle.inode_sizes.specs.Cut.{IsRowCut, first_of, has_some, is_some, kept, lost}
+use Rattle.inode_sizes.specs.Cut.{IsRowCut, first_of, has_some, is_some, left_over, lost}
 use Rattle.inode_sizes.specs.Doubles.{AreInnersCut, row_left, times}
 use Rattle.base.specs.declared.TheConstants.{INDIRECT_INDEXES}
-use Rattle.inode_sizes.proofs.FirstOnes.{count_both, count_one, first_both, first_nil, kept_or_lost, none_counted}
+use Rattle.inode_sizes.proofs.FirstOnes.{count_both, count_one, first_both, first_nil, left_over_or_lost, none_counted}
 use Rattle.inode_sizes.proofs.FirstOnes.{none_dropped, none_first, parted, times_both}
 
 abbrev pub how_often : ℕ → List ℕ → ℕ
@@ -48,7 +48,7 @@ row_parted q pointer numbers count before now stay used gone is =
     ∙ often_both q (before ++ filter is_some (drop count numbers)) (filter is_some (lost pointer stay ∷ [])) in
     let two = often_both q before (filter is_some (drop count numbers)) in
     let three = parted q count numbers in
-    let four = kept_or_lost q pointer stay in
+    let four = left_over_or_lost q pointer stay in
     let five = ap (λ p. times q (p ∷ [])) is.pointer_is in
     omega (arith, one, two, three, four, five)
 
@@ -139,18 +139,18 @@ module _ (f : ℕ → List ℕ) (wide : (x : ℕ) → length (f x) ≡ INDIRECT_
         (f (get_or_push pointers p 0 k (sym (same ∙ is.long)) i)))
         ∙ sym row.numbers_are
 
-    numbers_now : (k : ℕ) → k < length all → get_or next k 0 ≡ kept (get_or all k 0) (row_left f all count k)
+    numbers_now : (k : ℕ) → k < length all → get_or next k 0 ≡ left_over (get_or all k 0) (row_left f all count k)
     numbers_now k less = elim (cases_lt k (length numbers)) [
       | inl early ↦ (
           let below : k < length pointers = let same = is.long in omega (arith, early, same) in
           get_or_append_left numbers (now ∷ []) 0 k early ∙ is.numbers_are k below
-          ∙ (λ i. kept (sym (get_or_append_left pointers (p ∷ []) 0 k below) i) (sym (early_row k below) i)))
+          ∙ (λ i. left_over (sym (get_or_append_left pointers (p ∷ []) 0 k below) i) (sym (early_row k below) i)))
       | inr late ↦ (
           let two = length-append pointers (p ∷ []) in
           let same = is.long in
           let here : k ≡ length numbers = omega (arith, less, late, two, same) in
           get_or_push numbers now 0 k (sym here) ∙ row.pointer_is
-          ∙ (λ i. kept (sym (get_or_push pointers p 0 k (sym (here ∙ same))) i) (sym (last_row k here) i)))
+          ∙ (λ i. left_over (sym (get_or_push pointers p 0 k (sym (here ∙ same))) i) (sym (last_row k here) i)))
     ]
 
     used_now : used + row_used ≡ count_by is_some next + count_by is_some (first_of count (flat_map f all))
@@ -238,9 +238,9 @@ module _ (f : ℕ → List ℕ) (wide : (x : ℕ) → length (f x) ≡ INDIRECT_
           here)
 
       -- it isn't
-      pub cut_beside : (length numbers ≡ count / INDIRECT_INDEXES → ⊥)
+      pub cut_not_through : (length numbers ≡ count / INDIRECT_INDEXES → ⊥)
           → AreInnersCut f (pointers ++ p ∷ []) count before next part part_numbers (used + row_used) later
-      cut_beside other =
+      cut_not_through other =
           subst (λ l. AreInnersCut f (pointers ++ p ∷ []) count before l part part_numbers (used + row_used) later)
           (sym more)
           (cut_elsewhere pointers count before numbers part part_numbers used gone is p now stay row_used later

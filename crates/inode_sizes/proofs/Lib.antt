@@ -10,5 +10,5 @@ pub mod CutOwned
 pub mod CutFile
 pub mod Shrunk
 pub mod CutHolds
-pub mod Told
+pub mod WhatLiesThere
 pub mod Grown

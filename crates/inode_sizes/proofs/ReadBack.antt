@@ -19,7 +19,7 @@ use Rattle.layout.proofs.OnGrid.{data_within}
 use Rattle.layout.proofs.Written.{not_same}
 use Rattle.inode.proofs.AllTests.{all_two, same_number}
 use Rattle.inode_data.proofs.Owned.{put_here}
-use Rattle.inode_sizes.specs.Cut.{has_some, kept, with_numbers, with_zeros, zeroed}
+use Rattle.inode_sizes.specs.Cut.{has_some, left_over, with_numbers, with_zeros, zeroed}
 use Rattle.inode_sizes.proofs.CutNumbers.{are_zeros, none_some}
 
 abbrev pub AreSmall : List ℕ → Type 0
@@ -79,32 +79,32 @@ module _ (g : Geometry) where
 not_both : (b : ℕ) → b ≡ 0 → nat_eq b 0 ≡ false → ⊥
 not_both b is some = let clash : true ≡ false = sym (eq-eqb b 0 is) ∙ some in cc
 
-module _ (pointer now : ℕ) (stay : List ℕ) (is : now ≡ kept pointer stay) where
-  pub kept_some : nat_eq now 0 ≡ false → pointer ≡ now
-  kept_some some = by_test (has_some stay) is
+module _ (pointer now : ℕ) (stay : List ℕ) (is : now ≡ left_over pointer stay) where
+  pub left_over_some : nat_eq now 0 ≡ false → pointer ≡ now
+  left_over_some some = by_test (has_some stay) is
     where
       by_test : (t : Bool) → now ≡ cond t pointer 0 → pointer ≡ now
       by_test true e = sym e
       by_test false e = absurd (not_both now e some)
 
-  pub kept_any : nat_eq now 0 ≡ false → has_some stay ≡ true
-  kept_any some = by_test (has_some stay) is
+  pub left_over_any : nat_eq now 0 ≡ false → has_some stay ≡ true
+  left_over_any some = by_test (has_some stay) is
     where
       by_test : (t : Bool) → now ≡ cond t pointer 0 → t ≡ true
       by_test true e = refl
       by_test false e = absurd (not_both now e some)
 
-  pub kept_none : (nat_eq pointer 0 ≡ true → has_some stay ≡ false) → nat_eq now 0 ≡ true → has_some stay ≡ false
-  kept_none empty none = by_test (has_some stay) refl is
+  pub left_over_none : (nat_eq pointer 0 ≡ true → has_some stay ≡ false) → nat_eq now 0 ≡ true → has_some stay ≡ false
+  left_over_none empty none = by_test (has_some stay) refl is
     where
       by_test : (t : Bool) → has_some stay ≡ t → now ≡ cond t pointer 0 → has_some stay ≡ false
       by_test true e same = empty (ap (λ x. nat_eq x 0) (sym same) ∙ none)
       by_test false e same = e
 
 -- it is what it was, or none
-pub kept_passes : (test : ℕ → Bool) (pointer now : ℕ) (stay : List ℕ) → test 0 ≡ true → now ≡ kept pointer stay
+pub left_over_passes : (test : ℕ → Bool) (pointer now : ℕ) (stay : List ℕ) → test 0 ≡ true → now ≡ left_over pointer stay
     → test pointer ≡ true → test now ≡ true
-kept_passes test pointer now stay none same is = by_test (has_some stay) same
+left_over_passes test pointer now stay none same is = by_test (has_some stay) same
   where
     by_test : (t : Bool) → now ≡ cond t pointer 0 → test now ≡ true
     by_test true e = ap test e ∙ is

@@ -24,8 +24,8 @@ use Rattle.layout.proofs.OnGrid.{data_within}
 use Rattle.layout.proofs.Written.{not_same}
 use Rattle.bitmap.proofs.Gained.{all_so, own_part, own_parts}
 use Rattle.bitmap.proofs.Held.{are_data}
-use Rattle.inode.proofs.DraftsLemmas.Marks.{TakesAndDrops, clear_is_free, moved_marks, times}
-use Rattle.inode.proofs.DraftsLemmas.OneFile.{numbered, one_file}
+use Rattle.inode.proofs.WriteSetsLemmas.Marks.{TakesAndDrops, unmarked_is_free, moved_marks, times}
+use Rattle.inode.proofs.WriteSetsLemmas.OneFile.{numbered, one_file}
 use Rattle.bitmap.specs.Inodes.Frees.{without}
 use Rattle.bitmap.proofs.InodesLemmas.Without.{held_by, without_others, without_them}
 
@@ -114,7 +114,7 @@ module _ (g : Geometry) (image : Image) (tree : Tree) (n : ℕ) (inode new_inode
       by_bit : (t : Bool) → was.block_bits b ≡ t → t ≡ true
       by_bit true is = refl
       by_bit false is =
-          let none = clear_is_free g was b holds.parts.marked low is in
+          let none = unmarked_is_free g was b holds.parts.marked low is in
           let own = own_part g was n b less in
           absurd (omega (arith, none, own, had))
 

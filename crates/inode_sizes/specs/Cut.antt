@@ -25,8 +25,8 @@ abbrev pub has_some : List ℕ → Bool
 has_some numbers = list_any is_some numbers
 
 -- a block that holds numbers stays where one of them does, and else is gone
-abbrev pub kept : ℕ → List ℕ → ℕ
-kept pointer stay = cond (has_some stay) pointer 0
+abbrev pub left_over : ℕ → List ℕ → ℕ
+left_over pointer stay = cond (has_some stay) pointer 0
 
 abbrev pub lost : ℕ → List ℕ → ℕ
 lost pointer stay = cond (has_some stay) 0 pointer
@@ -40,7 +40,7 @@ one_of number = cond (is_some number) 1 0
 pub record IsRowCut (pointer : ℕ) (numbers : List ℕ) (count : ℕ) (before : List ℕ) (now : ℕ) (stay : List ℕ)
     (used : ℕ) (gone : List ℕ) : Type 0 where
   pub numbers_are : stay ≡ first_of count numbers
-  pub pointer_is : now ≡ kept pointer stay
+  pub pointer_is : now ≡ left_over pointer stay
   pub used_is : used ≡ one_of now + count_by is_some stay
   pub gone_are : gone ≡ before ++ filter is_some (drop count numbers) ++ filter is_some (lost pointer stay ∷ [])
 

@@ -11,7 +11,7 @@ use Rattle.bitmap.specs.Bits.{AreOfBytes}
 use Rattle.bitmap.specs.Inodes.Frees.{without}
 use Rattle.inode_sizes.specs.Cut.{IsRowCut, first_of, is_some, with_numbers, with_zeros}
 use Rattle.inode_sizes.specs.Doubles.{FitsDouble, IsDoubleCut}
-use Rattle.inode_sizes.specs.declared.cutting.CutPointers.{CutPointers}
+use Rattle.inode_sizes.specs.declared.cuts.CutPointers.{CutPointers}
 
 -- in one block the bytes are zeros from one on
 pub record HasZeros (g : Geometry) (number from : ℕ) (old new : Image) : Type 0 where
@@ -25,24 +25,24 @@ pub record HasNumbers (g : Geometry) (number : ℕ) (numbers : List ℕ) (old ne
 
 -- what stays of a file's numbers of blocks has as many as there are places for, and pointer blocks are data blocks
 pub record FitsCut (g : Geometry) (cut : CutPointers) : Type 0 where
-  pub near : (length cut.near.numbers.items ≡ DIRECT_INDEXES) × (cut.near.count ≤ DIRECT_INDEXES)
-  pub far : (length cut.far.numbers.items ≡ INDIRECT_INDEXES) × (cut.far.used ≤ INDIRECT_INDEXES + 1)
-  pub far_placed : is_data_block_or_none g cut.far.pointer ≡ true
+  pub direct_part : (length cut.direct_part.numbers.items ≡ DIRECT_INDEXES) × (cut.direct_part.count ≤ DIRECT_INDEXES)
+  pub indirect_part : (length cut.indirect_part.numbers.items ≡ INDIRECT_INDEXES) × (cut.indirect_part.used ≤ INDIRECT_INDEXES + 1)
+  pub indirect_part_placed : is_data_block_or_none g cut.indirect_part.pointer ≡ true
   pub double : FitsDouble g cut.double
 
 -- it is what stays of these where the first so many indexes do
 pub record IsCutOf (content : Image) (inode : Inode) (count : ℕ) (cut : CutPointers) : Type 0 where
-  pub near : cut.near.numbers.items ≡ first_of count inode.direct
-  pub near_count : cut.near.count ≡ count_by is_some cut.near.numbers.items
+  pub direct_part : cut.direct_part.numbers.items ≡ first_of count inode.direct
+  pub direct_part_count : cut.direct_part.count ≡ count_by is_some cut.direct_part.numbers.items
   pub between : List ℕ
-  pub far : IsRowCut inode.indirect (numbers_in content inode.indirect) (count - DIRECT_INDEXES)
-      (filter is_some (drop count inode.direct)) cut.far.pointer cut.far.numbers.items cut.far.used between
+  pub indirect_part : IsRowCut inode.indirect (numbers_in content inode.indirect) (count - DIRECT_INDEXES)
+      (filter is_some (drop count inode.direct)) cut.indirect_part.pointer cut.indirect_part.numbers.items cut.indirect_part.used between
   pub further : IsDoubleCut content inode.double (count - FIRST_DOUBLE_INDEX) between cut.double cut.gone.items
 
 -- the blocks with the numbers that stay in pointer blocks of which a part stays
 abbrev pub with_pointers : Image → CutPointers → Image
 with_pointers content cut =
-    with_numbers (with_numbers (with_numbers content cut.far.pointer cut.far.numbers.items) cut.double.inners.part
+    with_numbers (with_numbers (with_numbers content cut.indirect_part.pointer cut.indirect_part.numbers.items) cut.double.inners.part
     cut.double.inners.part_numbers.items) cut.double.pointer cut.double.inners.numbers.items
 
 -- they have them

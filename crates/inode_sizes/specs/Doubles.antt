@@ -7,7 +7,7 @@ use Rattle.disk.specs.Crash.{Image}
 use Rattle.layout.specs.declared.geometry.Geometry.{Geometry}
 use Rattle.layout.specs.Decode.{numbers_in}
 use Rattle.layout.specs.InodeForm.{is_data_block_or_none}
-use Rattle.inode_sizes.specs.Cut.{first_of, is_some, kept, lost, one_of}
+use Rattle.inode_sizes.specs.Cut.{first_of, is_some, left_over, lost, one_of}
 use Rattle.inode_sizes.specs.declared.doubles.Double.{Double}
 use Rattle.inode_sizes.specs.declared.doubles.Inners.{Inners}
 
@@ -26,7 +26,7 @@ pub record AreInnersCut (f : ℕ → List ℕ) (pointers : List ℕ) (count : �
     (part : ℕ) (part_numbers : List ℕ) (used : ℕ) (gone : List ℕ) : Type 0 where
   pub long : length numbers ≡ length pointers
   pub numbers_are : (k : ℕ) → k < length pointers
-      → get_or numbers k 0 ≡ kept (get_or pointers k 0) (row_left f pointers count k)
+      → get_or numbers k 0 ≡ left_over (get_or pointers k 0) (row_left f pointers count k)
   pub part_is : part ≡ get_or numbers (count / INDIRECT_INDEXES) 0
   pub part_numbers_are : nat_eq part 0 ≡ false → part_numbers ≡ row_left f pointers count (count / INDIRECT_INDEXES)
   pub used_is : used ≡ count_by is_some numbers + count_by is_some (first_of count (flat_map f pointers))
@@ -40,7 +40,7 @@ pub record IsDoubleCut (content : Image) (double count : ℕ) (before : List ℕ
     pub between : List ℕ
     pub inners : AreInnersCut (numbers_in content) (numbers_in content double) count before cut.inners.numbers.items
         cut.inners.part cut.inners.part_numbers.items cut.inners.used between
-    pub pointer_is : cut.pointer ≡ kept double cut.inners.numbers.items
+    pub pointer_is : cut.pointer ≡ left_over double cut.inners.numbers.items
     pub used_is : cut.used ≡ one_of cut.pointer + cut.inners.used
     pub gone_are : gone ≡ between ++ filter is_some (lost double cut.inners.numbers.items ∷ [])
 

@@ -7,12 +7,12 @@ ghost use Rattle.layout.specs.Decode.{numbers_in};
 ghost use Rattle.layout.specs.InodeForm.{is_data_block_or_none};
 ghost use Rattle.layout.specs.Parts.{content_in};
 ghost use Rattle.nfs_spec.specs.Model.Tree.{Tree};
-ghost use Rattle.inode.specs.Over.{HasInode, IsOver, IsPause, MayStop, are_far_placed};
+ghost use Rattle.inode.specs.Over.{HasInode, IsOver, IsResumable, MaySuspend, are_pointers_placed};
 ghost use Rattle.inode_sizes.specs.Doubles.{AreInnersCut, FitInners, FitsDouble, IsDoubleCut};
 
 use crate::numbers::{count_some, cut_row, keep_pointer, one_of};
 use base::INDIRECT_INDEXES;
-use inode::{Snap, Stop, double_numbers, pointer_numbers};
+use inode::{Snap, Suspend, double_numbers, pointer_numbers};
 use layout::Inode;
 use std::alloc::{AllocError, Global};
 
@@ -52,7 +52,7 @@ fn cut_inner(
     count: usize,
     inners: &mut Inners,
     gone: &mut Vec<u32>,
-) -> Result<(), Stop>
+) -> Result<(), Suspend>
     requires less { length inners.now.numbers.items < INDIRECT_INDEXES }
     requires fits { FitInners snap.now.geometry inners.now }
     ensures fits { OnOk result (is_data_block_or_none snap.now.geometry pointer ≡ true
@@ -63,10 +63,10 @@ fn cut_inner(
         inners.old.numbers.items inners.old.part inners.old.part_numbers.items inners.old.used gone.old.items
         → AreInnersCut (numbers_in (content_in snap.now.geometry blocks)) (pointers ++ pointer ∷ []) count before
         inners.new.numbers.items inners.new.part inners.new.part_numbers.items inners.new.used gone.new.items) }
-    ensures err { IfErr result (λ stop. MayStop snap.now stop) }
-    ensures pause { IfErr result (λ stop. (blocks : Image) (tree : Tree) → IsOver snap.now blocks tree
+    ensures err { IfErr result (λ suspend. MaySuspend snap.now suspend) }
+    ensures resumable { IfErr result (λ suspend. (blocks : Image) (tree : Tree) → IsOver snap.now blocks tree
         → is_data_block_or_none snap.now.geometry pointer ≡ true
-        → are_far_placed snap.now.geometry blocks pointer → IsPause stop) }
+        → are_pointers_placed snap.now.geometry blocks pointer → IsResumable suspend) }
 {
     if pointer == 0 {
         add(&mut inners.numbers, 0)?;
@@ -115,7 +115,7 @@ fn cut_inners(
     pointers: &[u32],
     count: usize,
     gone: &mut Vec<u32>,
-) -> Result<Inners, Stop>
+) -> Result<Inners, Suspend>
     requires len { length pointers.now ≡ INDIRECT_INDEXES }
     requires placed { list_all (is_data_block_or_none snap.now.geometry) pointers.now ≡ true }
     ensures fits { IfOk result (λ inners. FitInners snap.now.geometry inners) }
@@ -123,10 +123,10 @@ fn cut_inners(
     ensures ok { IfOk result (λ inners. (blocks : Image) (tree : Tree) → IsOver snap.now blocks tree
         → AreInnersCut (numbers_in (content_in snap.now.geometry blocks)) pointers.now count gone.old.items
         inners.numbers.items inners.part inners.part_numbers.items inners.used gone.new.items) }
-    ensures err { IfErr result (λ stop. MayStop snap.now stop) }
-    ensures pause { IfErr result (λ stop. (blocks : Image) (tree : Tree) → IsOver snap.now blocks tree
+    ensures err { IfErr result (λ suspend. MaySuspend snap.now suspend) }
+    ensures resumable { IfErr result (λ suspend. (blocks : Image) (tree : Tree) → IsOver snap.now blocks tree
         → list_all (λ pointer. list_all (is_data_block_or_none snap.now.geometry)
-        (numbers_in (content_in snap.now.geometry blocks) pointer)) pointers.now ≡ true → IsPause stop) }
+        (numbers_in (content_in snap.now.geometry blocks) pointer)) pointers.now ≡ true → IsResumable suspend) }
 {
     let mut inners = no_inners(alloc)?;
     for pointer in pointers {
@@ -142,16 +142,16 @@ pub(crate) fn cut_double(
     inode: &Inode,
     count: usize,
     gone: &mut Vec<u32>,
-) -> Result<Double, Stop>
+) -> Result<Double, Suspend>
     requires { is_data_block_or_none snap.now.geometry inode.now.double ≡ true }
     ensures fits { IfOk result (λ double. FitsDouble snap.now.geometry double) }
     ensures ok { IfOk result (λ double. (blocks : Image) (tree : Tree) (file : ℕ)
         → HasInode snap.now blocks tree file inode.now
         → IsDoubleCut (content_in snap.now.geometry blocks) inode.now.double count gone.old.items double
         gone.new.items) }
-    ensures err { IfErr result (λ stop. MayStop snap.now stop) }
-    ensures pause { IfErr result (λ stop. (blocks : Image) (tree : Tree) (file : ℕ)
-        → HasInode snap.now blocks tree file inode.now → IsPause stop) }
+    ensures err { IfErr result (λ suspend. MaySuspend snap.now suspend) }
+    ensures resumable { IfErr result (λ suspend. (blocks : Image) (tree : Tree) (file : ℕ)
+        → HasInode snap.now blocks tree file inode.now → IsResumable suspend) }
 {
     let pointers = double_numbers(alloc, snap, inode)?;
     let inners = cut_inners(alloc, snap, &pointers, count, gone)?;

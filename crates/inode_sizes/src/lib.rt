@@ -2,9 +2,9 @@
 #![tactic(auto)]
 
 mod blocks;
-mod cutting;
+mod cuts;
 mod doubles;
 mod numbers;
-mod sizing;
+mod size_changes;
 
-pub use sizing::resize;
+pub use size_changes::resize;

@@ -44,7 +44,7 @@ fn add_some(alloc: Global, numbers: &[u32], gone: &mut Vec<u32>) -> Result<(), A
 
 /// What stays of some numbers of a file's: these, and how many of them are those of blocks.
 #[derive(Drop)]
-pub(crate) struct Kept {
+pub(crate) struct LeftOverNumbers {
     pub numbers: Vec<u32>,
     pub count: u32,
 }
@@ -55,20 +55,20 @@ pub(crate) fn cut_numbers(
     numbers: &[u32],
     count: usize,
     gone: &mut Vec<u32>,
-) -> Result<Kept, AllocError>
+) -> Result<LeftOverNumbers, AllocError>
     requires { length numbers.now ≤ INDIRECT_INDEXES }
-    ensures numbers { IfOk result (λ kept. kept.numbers.items ≡ first_of count numbers.now) }
-    ensures len { IfOk result (λ kept. length kept.numbers.items ≡ length numbers.now) }
-    ensures few { IfOk result (λ kept. kept.count ≤ length numbers.now) }
-    ensures count { IfOk result (λ kept. kept.count ≡ count_by is_some kept.numbers.items) }
+    ensures numbers { IfOk result (λ left_over. left_over.numbers.items ≡ first_of count numbers.now) }
+    ensures len { IfOk result (λ left_over. length left_over.numbers.items ≡ length numbers.now) }
+    ensures few { IfOk result (λ left_over. left_over.count ≤ length numbers.now) }
+    ensures count { IfOk result (λ left_over. left_over.count ≡ count_by is_some left_over.numbers.items) }
     ensures gone { IfOk result (λ _. gone.new.items ≡ gone.old.items ++ filter is_some (drop count numbers.now)) }
 {
     let most = count.min(numbers.len());
     add_some(alloc, &numbers[most..], gone)?;
-    let kept = first_of(alloc, numbers, most)?;
-    let some = count_some(&kept);
-    Ok(Kept {
-        numbers: kept,
+    let left_over = first_of(alloc, numbers, most)?;
+    let some = count_some(&left_over);
+    Ok(LeftOverNumbers {
+        numbers: left_over,
         count: some,
     })
 }
@@ -76,7 +76,7 @@ pub(crate) fn cut_numbers(
 /// Keeps a block that holds numbers where so many of these are left: it is gone where none is. Said is its number, 0
 /// where it is gone.
 pub(crate) fn keep_pointer(pointer: u32, left: u32, gone: &mut Vec<u32>) -> Result<u32, AllocError>
-    ensures is { IfOk result (λ kept. kept ≡ cond (nat_eq left 0) 0 pointer) }
+    ensures is { IfOk result (λ left_over. left_over ≡ cond (nat_eq left 0) 0 pointer) }
     ensures gone { IfOk result
         (λ _. gone.new.items ≡ gone.old.items ++ filter is_some (cond (nat_eq left 0) pointer 0 ∷ [])) }
 {
@@ -123,11 +123,11 @@ pub(crate) fn cut_row(
     ensures len { IfOk result (λ row. length row.numbers.items ≡ INDIRECT_INDEXES) }
     ensures few { IfOk result (λ row. row.used ≤ INDIRECT_INDEXES + 1) }
 {
-    let kept = cut_numbers(alloc, numbers, count, gone)?;
-    let now = keep_pointer(pointer, kept.count, gone)?;
+    let left_over = cut_numbers(alloc, numbers, count, gone)?;
+    let now = keep_pointer(pointer, left_over.count, gone)?;
     Ok(Row {
         pointer: now,
-        numbers: kept.numbers,
-        used: one_of(now) + kept.count,
+        numbers: left_over.numbers,
+        used: one_of(now) + left_over.count,
     })
 }

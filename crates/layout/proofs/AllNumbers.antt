@@ -14,7 +14,7 @@ use Rattle.layout.specs.InodeForm.{SoundInode, is_data_block_or_none, is_sound_i
 use Rattle.layout.specs.InodeForm.{is_sound_file, is_sound_map, is_sound_regular, is_sound_directory}
 use Rattle.layout.specs.InodeForm.{is_sound_link}
 use Rattle.layout.specs.Version.{has_double}
-use Rattle.layout.proofs.FileNumbers.{far_pass}
+use Rattle.layout.proofs.FileNumbers.{indirect_pass}
 use Rattle.layout.proofs.NumbersIn.{doubled_length, in_length, placed_in}
 use Rattle.layout.proofs.Respelled.{all_four, all_three}
 
@@ -32,11 +32,11 @@ pub all-length : (content : Image) (inode : Inode) → length inode.direct ≡ D
     → length (numbers_of content inode) ≡ FILE_INDEXES
 unfolding numbers_of
 all-length content inode direct =
-    let far = in_length content inode.indirect in
+    let indirect_block = in_length content inode.indirect in
     let further = doubled_length content inode.double in
     let first = length-append inode.direct (numbers_in content inode.indirect) in
     let both = length-append (inode.direct ++ numbers_in content inode.indirect) (doubled_in content inode.double) in
-    omega (arith, both, first, far, further, direct)
+    omega (arith, both, first, indirect_block, further, direct)
 
 module _ (g : Geometry) where
   abbrev are_placed : List ℕ → Bool
@@ -57,5 +57,5 @@ module _ (g : Geometry) where
       → are_placed (numbers_at INDIRECT_INDEXES 0 (content inode.indirect)) ≡ true)
       → are_placed (numbers_of content inode) ≡ true
   all_placed content inode sound no_double placed =
-      far_pass content inode no_double (is_data_block_or_none g) refl (maps inode sound).0
+      indirect_pass content inode no_double (is_data_block_or_none g) refl (maps inode sound).0
       (placed_in content inode.indirect g placed)

@@ -54,8 +54,8 @@ same_pointers blocks after (n ∷ pointers) same =
     (same_in after blocks n same.0, same_pointers blocks after pointers same.1)
 
 module _ (blocks after : Image) (inode new : Inode) where
-  abbrev near : List ℕ
-  near = inode.direct ++ numbers_in blocks inode.indirect
+  abbrev lower_part : List ℕ
+  lower_part = inode.direct ++ numbers_in blocks inode.indirect
 
   -- inodes that name the same numbers themselves, and pointer blocks in which the same lie
   pub alike_numbers : new.direct ≡ inode.direct
@@ -63,21 +63,21 @@ module _ (blocks after : Image) (inode new : Inode) where
       → doubled_in after new.double ≡ doubled_in blocks inode.double
       → numbers_of after new ≡ numbers_of blocks inode
   unfolding numbers_of
-  alike_numbers here far further = λ i. here i ++ far i ++ further i
+  alike_numbers here indirect_block further = λ i. here i ++ indirect_block i ++ further i
 
   pub alike_pointers : new.indirect ≡ inode.indirect → new.double ≡ inode.double
       → numbers_in after inode.double ≡ numbers_in blocks inode.double
       → pointer_blocks after new ≡ pointer_blocks blocks inode
   unfolding pointer_blocks
-  alike_pointers far double inner =
-      (λ i. far i ∷ double i ∷ numbers_in after (double i)) ∙ ap (λ l. inode.indirect ∷ inode.double ∷ l) inner
+  alike_pointers indirect_block double inner =
+      (λ i. indirect_block i ∷ double i ∷ numbers_in after (double i)) ∙ ap (λ l. inode.indirect ∷ inode.double ∷ l) inner
 
   module _ (direct : length inode.direct ≡ DIRECT_INDEXES) where
-    near_length : length near ≡ FIRST_DOUBLE_INDEX
-    near_length =
-        let far = in_length blocks inode.indirect in
+    length_before_double : length lower_part ≡ FIRST_DOUBLE_INDEX
+    length_before_double =
+        let indirect_block = in_length blocks inode.indirect in
         let first = length-append inode.direct (numbers_in blocks inode.indirect) in
-        omega (arith, first, far, direct)
+        omega (arith, first, indirect_block, direct)
 
     module _ (index number : ℕ) where
       -- another number that the inode names itself
@@ -86,12 +86,12 @@ module _ (blocks after : Image) (inode new : Inode) where
           → doubled_in after new.double ≡ doubled_in blocks inode.double
           → numbers_of after new ≡ set (numbers_of blocks inode) index number
       unfolding numbers_of
-      direct_set less here far further =
-          let long = near_length in
-          (λ t. here t ++ far t ++ further t)
+      direct_set less here indirect_block further =
+          let long = length_before_double in
+          (λ t. here t ++ indirect_block t ++ further t)
           ∙ ap (λ l. l ++ doubled_in blocks inode.double)
           (sym (set-append_left inode.direct (numbers_in blocks inode.indirect) index number (omega (arith, less, direct))))
-          ∙ sym (set-append_left near (doubled_in blocks inode.double) index number (omega (arith, less, long)))
+          ∙ sym (set-append_left lower_part (doubled_in blocks inode.double) index number (omega (arith, less, long)))
 
       -- another number in the indirect block
       pub indirect_set : DIRECT_INDEXES ≤ index → index < FIRST_DOUBLE_INDEX
@@ -100,12 +100,12 @@ module _ (blocks after : Image) (inode new : Inode) where
           → doubled_in after new.double ≡ doubled_in blocks inode.double
           → numbers_of after new ≡ set (numbers_of blocks inode) index number
       unfolding numbers_of
-      indirect_set past within here far further =
-          let long = near_length in
-          (λ t. here t ++ far t ++ further t)
+      indirect_set past within here indirect_block further =
+          let long = length_before_double in
+          (λ t. here t ++ indirect_block t ++ further t)
           ∙ ap (λ l. l ++ doubled_in blocks inode.double)
           (sym (set-append_right inode.direct (numbers_in blocks inode.indirect) DIRECT_INDEXES index number direct past))
-          ∙ sym (set-append_left near (doubled_in blocks inode.double) index number (omega (arith, within, long)))
+          ∙ sym (set-append_left lower_part (doubled_in blocks inode.double) index number (omega (arith, within, long)))
 
     -- another number in an inner block: one that is there, a new one, or one below a new double indirect block
     pub double_set : (inner j number : ℕ) → inner < INDIRECT_INDEXES → j < INDIRECT_INDEXES
@@ -119,8 +119,8 @@ module _ (blocks after : Image) (inode new : Inode) where
         → numbers_of after new
         ≡ set (numbers_of blocks inode) (FIRST_DOUBLE_INDEX + (inner * INDIRECT_INDEXES + j)) number
     unfolding numbers_of doubled_in
-    double_set inner j number row column here far same changed =
-        let long = near_length in
+    double_set inner j number row column here indirect_block same changed =
+        let long = length_before_double in
         let was = in_length blocks inode.double in
         let now = in_length after new.double in
         let further : doubled_in after new.double
@@ -129,6 +129,6 @@ module _ (blocks after : Image) (inode new : Inode) where
         (numbers_in blocks inode.double) (numbers_in after new.double) inner j number
         (now ∙ sym was) (omega (arith, row, was)) column
         (λ i less. same i (omega (arith, less, was))) changed in
-        (λ t. here t ++ far t ++ further t)
-        ∙ sym (set-append_add near (doubled_in blocks inode.double) (inner * INDIRECT_INDEXES + j) number)
-        ∙ ap (λ n. set (near ++ doubled_in blocks inode.double) (n + (inner * INDIRECT_INDEXES + j)) number) long
+        (λ t. here t ++ indirect_block t ++ further t)
+        ∙ sym (set-append_add lower_part (doubled_in blocks inode.double) (inner * INDIRECT_INDEXES + j) number)
+        ∙ ap (λ n. set (lower_part ++ doubled_in blocks inode.double) (n + (inner * INDIRECT_INDEXES + j)) number) long

@@ -25,8 +25,8 @@ is_some number = not (nat_eq number 0)
 
 module _ (blocks : Image) (inode : Inode) where
   -- the numbers that don't lie below the double indirect block
-  abbrev pub near_of : List ℕ
-  near_of = inode.direct ++ numbers_in blocks inode.indirect
+  abbrev pub numbers_before_double : List ℕ
+  numbers_before_double = inode.direct ++ numbers_in blocks inode.indirect
 
   -- those that the inode names itself, then those in its indirect block, then those that the double one reaches
   pub in_parts : numbers_of blocks inode
@@ -40,7 +40,7 @@ module _ (blocks : Image) (inode : Inode) where
   unfolding numbers_of
   first_numbers count few =
       let both = length-append inode.direct (numbers_in blocks inode.indirect) in
-      take-append-le count near_of (doubled_in blocks inode.double) (omega (arith, few, both))
+      take-append-le count numbers_before_double (doubled_in blocks inode.double) (omega (arith, few, both))
       ∙ take-append-le count inode.direct (numbers_in blocks inode.indirect) few
 
   -- what lies behind those
@@ -53,11 +53,11 @@ module _ (blocks : Image) (inode : Inode) where
       ∙ drop-append_seam inode.direct (numbers_in blocks inode.indirect ++ doubled_in blocks inode.double)
 
   module _ (direct : length inode.direct ≡ DIRECT_INDEXES) where
-    near_length : length near_of ≡ FIRST_DOUBLE_INDEX
-    near_length =
-        let far = in_length blocks inode.indirect in
+    length_before_double : length numbers_before_double ≡ FIRST_DOUBLE_INDEX
+    length_before_double =
+        let indirect_block = in_length blocks inode.indirect in
         let first = length-append inode.direct (numbers_in blocks inode.indirect) in
-        omega (arith, first, far, direct)
+        omega (arith, first, indirect_block, direct)
 
     pub first_direct : take DIRECT_INDEXES (numbers_of blocks inode) ≡ inode.direct
     first_direct =
@@ -68,24 +68,24 @@ module _ (blocks : Image) (inode : Inode) where
 
     -- so many of the first lie in no inner block: what a directory spans
     pub first_ones : (count : ℕ) → count ≤ FIRST_DOUBLE_INDEX
-        → take count (numbers_of blocks inode) ≡ take count near_of
+        → take count (numbers_of blocks inode) ≡ take count numbers_before_double
     unfolding numbers_of
     first_ones count few =
-        let long = near_length in
-        take-append-le count near_of (doubled_in blocks inode.double) (omega (arith, few, long))
+        let long = length_before_double in
+        take-append-le count numbers_before_double (doubled_in blocks inode.double) (omega (arith, few, long))
 
-    pub past_near : drop FIRST_DOUBLE_INDEX (numbers_of blocks inode) ≡ doubled_in blocks inode.double
+    pub past_indirect : drop FIRST_DOUBLE_INDEX (numbers_of blocks inode) ≡ doubled_in blocks inode.double
     unfolding numbers_of
-    past_near =
-        ap (λ n. drop n (near_of ++ doubled_in blocks inode.double)) (sym near_length)
-        ∙ drop-append_seam near_of (doubled_in blocks inode.double)
+    past_indirect =
+        ap (λ n. drop n (numbers_before_double ++ doubled_in blocks inode.double)) (sym length_before_double)
+        ∙ drop-append_seam numbers_before_double (doubled_in blocks inode.double)
 
     pub middle : take INDIRECT_INDEXES (drop DIRECT_INDEXES (numbers_of blocks inode)) ≡ numbers_in blocks inode.indirect
     middle =
-        let far = in_length blocks inode.indirect in
+        let indirect_block = in_length blocks inode.indirect in
         ap (λ n. take INDIRECT_INDEXES (drop n (numbers_of blocks inode))) (sym direct)
         ∙ ap (take INDIRECT_INDEXES) past_direct
-        ∙ ap (λ n. take n (numbers_in blocks inode.indirect ++ doubled_in blocks inode.double)) (sym far)
+        ∙ ap (λ n. take n (numbers_in blocks inode.indirect ++ doubled_in blocks inode.double)) (sym indirect_block)
         ∙ take-append_seam (numbers_in blocks inode.indirect) (doubled_in blocks inode.double)
 
     -- the numbers in an inner block
@@ -96,9 +96,9 @@ module _ (blocks : Image) (inode : Inode) where
     inner_part inner row =
         let long = in_length blocks inode.double in
         ap (λ n. take INDIRECT_INDEXES (drop (n + inner * INDIRECT_INDEXES)
-        (near_of ++ doubled_in blocks inode.double))) (sym near_length)
+        (numbers_before_double ++ doubled_in blocks inode.double))) (sym length_before_double)
         ∙ ap (take INDIRECT_INDEXES)
-        (drop-append-add near_of (doubled_in blocks inode.double) (inner * INDIRECT_INDEXES))
+        (drop-append-add numbers_before_double (doubled_in blocks inode.double) (inner * INDIRECT_INDEXES))
         ∙ piece_of (numbers_in blocks) INDIRECT_INDEXES (in_length blocks) (numbers_in blocks inode.double) inner
         (omega (arith, row, long))
 
@@ -106,10 +106,10 @@ module _ (blocks : Image) (inode : Inode) where
       -- the number at an index: one that the inode names itself
       pub direct_at : index < DIRECT_INDEXES → get_or (numbers_of blocks inode) index 0 ≡ get_or inode.direct index 0
       unfolding numbers_of
-      direct_at near =
-          let long = near_length in
-          get_or_append_left near_of (doubled_in blocks inode.double) 0 index (omega (arith, near, long))
-          ∙ get_or_append_left inode.direct (numbers_in blocks inode.indirect) 0 index (omega (arith, near, direct))
+      direct_at lower_part =
+          let long = length_before_double in
+          get_or_append_left numbers_before_double (doubled_in blocks inode.double) 0 index (omega (arith, lower_part, long))
+          ∙ get_or_append_left inode.direct (numbers_in blocks inode.indirect) 0 index (omega (arith, lower_part, direct))
 
       -- or one in the indirect block
       pub indirect_at : DIRECT_INDEXES ≤ index → index < FIRST_DOUBLE_INDEX
@@ -117,8 +117,8 @@ module _ (blocks : Image) (inode : Inode) where
           ≡ get_or (numbers_in blocks inode.indirect) (index - DIRECT_INDEXES) 0
       unfolding numbers_of
       indirect_at past within =
-          let long = near_length in
-          get_or_append_left near_of (doubled_in blocks inode.double) 0 index (omega (arith, within, long))
+          let long = length_before_double in
+          get_or_append_left numbers_before_double (doubled_in blocks inode.double) 0 index (omega (arith, within, long))
           ∙ get_or-append_right inode.direct (numbers_in blocks inode.indirect) DIRECT_INDEXES index 0 direct past
 
     -- or one in an inner block
@@ -127,9 +127,9 @@ module _ (blocks : Image) (inode : Inode) where
         ≡ get_or (numbers_in blocks (get_or (numbers_in blocks inode.double) inner 0)) j 0
     unfolding numbers_of
     double_at inner j row column =
-        ap (λ n. get_or (near_of ++ doubled_in blocks inode.double) (n + (inner * INDIRECT_INDEXES + j)) 0)
-        (sym near_length)
-        ∙ get_or-append-add near_of (doubled_in blocks inode.double) (inner * INDIRECT_INDEXES + j) 0
+        ap (λ n. get_or (numbers_before_double ++ doubled_in blocks inode.double) (n + (inner * INDIRECT_INDEXES + j)) 0)
+        (sym length_before_double)
+        ∙ get_or-append-add numbers_before_double (doubled_in blocks inode.double) (inner * INDIRECT_INDEXES + j) 0
         ∙ doubled_at blocks inode.double inner j row column
 
     pub inner_at : (index : ℕ) → FIRST_DOUBLE_INDEX ≤ index → index < FILE_INDEXES
@@ -152,8 +152,8 @@ module _ (blocks : Image) (inode : Inode) where
       × (list_all test (doubled_in blocks inode.double) ≡ true)
   unfolding numbers_of
   parts_pass test all =
-      let two = all_two (list_all test near_of) (list_all test (doubled_in blocks inode.double))
-      (sym (list_all-append test near_of (doubled_in blocks inode.double)) ∙ all) in
+      let two = all_two (list_all test numbers_before_double) (list_all test (doubled_in blocks inode.double))
+      (sym (list_all-append test numbers_before_double (doubled_in blocks inode.double)) ∙ all) in
       let first = all_two (list_all test inode.direct) (list_all test (numbers_in blocks inode.indirect))
       (sym (list_all-append test inode.direct (numbers_in blocks inode.indirect)) ∙ two.0) in
       (first.0, first.1, two.1)
@@ -163,18 +163,18 @@ module _ (blocks : Image) (inode : Inode) where
       → list_all test (numbers_in blocks inode.indirect) ≡ true
       → list_all test (doubled_in blocks inode.double) ≡ true → list_all test (numbers_of blocks inode) ≡ true
   unfolding numbers_of
-  all_pass test near far further =
-      list_all-append test near_of (doubled_in blocks inode.double)
+  all_pass test lower_part indirect_block further =
+      list_all-append test numbers_before_double (doubled_in blocks inode.double)
       ∙ ap (λ t. t && list_all test (doubled_in blocks inode.double))
       (list_all-append test inode.direct (numbers_in blocks inode.indirect))
-      ∙ (λ i. near i && far i && further i)
+      ∙ (λ i. lower_part i && indirect_block i && further i)
 
   -- as many are those of blocks as in all parts
   pub counted_parts : count_of (numbers_of blocks inode)
       ≡ count_of inode.direct + count_of (numbers_in blocks inode.indirect) + count_of (doubled_in blocks inode.double)
   unfolding numbers_of
   counted_parts =
-      sum_by-append (λ (n : ℕ). cond (is_some n) 1 0) near_of (doubled_in blocks inode.double)
+      sum_by-append (λ (n : ℕ). cond (is_some n) 1 0) numbers_before_double (doubled_in blocks inode.double)
       ∙ ap (λ k. k + count_of (doubled_in blocks inode.double))
       (sum_by-append (λ (n : ℕ). cond (is_some n) 1 0) inode.direct (numbers_in blocks inode.indirect))
 
@@ -199,15 +199,15 @@ module _ (blocks : Image) (inode : Inode) where
   pub pass_pointers : (test : ℕ → Bool) → test inode.indirect ≡ true → test inode.double ≡ true
       → list_all test (numbers_in blocks inode.double) ≡ true → list_all test (pointer_blocks blocks inode) ≡ true
   unfolding pointer_blocks
-  pass_pointers test far double inner = λ i. far i && (double i && inner i)
+  pass_pointers test indirect_block double inner = λ i. indirect_block i && (double i && inner i)
 
   -- ---- without a double indirect block
 
   module _ (no_double : nat_eq inode.double 0 ≡ true) where
     -- the indirect block alone holds numbers
-    pub near_pointers : filter is_some (pointer_blocks blocks inode) ≡ filter is_some (inode.indirect ∷ [])
+    pub indirect_pointer : filter is_some (pointer_blocks blocks inode) ≡ filter is_some (inode.indirect ∷ [])
     unfolding pointer_blocks
-    near_pointers =
+    indirect_pointer =
         ap (λ l. cond (is_some inode.indirect) (inode.indirect ∷ l) l)
         (ap {B = List ℕ} (λ t. cond (not t) (inode.double ∷ some) some) no_double
         ∙ none_left blocks inode.double no_double)
@@ -216,40 +216,40 @@ module _ (blocks : Image) (inode : Inode) where
         some = filter is_some (numbers_in blocks inode.double)
 
     -- what zeros and the indirect block pass all of them do
-    pub pass_near_pointers : (test : ℕ → Bool) → test 0 ≡ true → test inode.indirect ≡ true
+    pub pass_indirect_pointer : (test : ℕ → Bool) → test 0 ≡ true → test inode.indirect ≡ true
         → test inode.double ≡ true → list_all test (pointer_blocks blocks inode) ≡ true
-    pass_near_pointers test is far double =
-        pass_pointers test far double (none_pass blocks inode.double no_double test is)
+    pass_indirect_pointer test is indirect_block double =
+        pass_pointers test indirect_block double (none_pass blocks inode.double no_double test is)
 
-    pub far_pass : (test : ℕ → Bool) → test 0 ≡ true → list_all test inode.direct ≡ true
+    pub indirect_pass : (test : ℕ → Bool) → test 0 ≡ true → list_all test inode.direct ≡ true
         → list_all test (numbers_in blocks inode.indirect) ≡ true → list_all test (numbers_of blocks inode) ≡ true
-    far_pass test is near far = all_pass test near far (no_double_pass blocks inode.double no_double test is)
+    indirect_pass test is lower_part indirect_block = all_pass test lower_part indirect_block (no_double_pass blocks inode.double no_double test is)
 
     -- its blocks are those that it names itself, and those of its indirect block
-    pub far_owned : filter is_some (pointer_blocks blocks inode ++ numbers_of blocks inode)
-        ≡ filter is_some (inode.indirect ∷ near_of)
+    pub indirect_owned : filter is_some (pointer_blocks blocks inode ++ numbers_of blocks inode)
+        ≡ filter is_some (inode.indirect ∷ numbers_before_double)
     unfolding numbers_of
-    far_owned =
-        filter-append is_some (pointer_blocks blocks inode) (near_of ++ doubled_in blocks inode.double)
-        ∙ (λ i. near_pointers i ++ behind i)
-        ∙ sym (filter-append is_some (inode.indirect ∷ []) near_of)
+    indirect_owned =
+        filter-append is_some (pointer_blocks blocks inode) (numbers_before_double ++ doubled_in blocks inode.double)
+        ∙ (λ i. indirect_pointer i ++ behind i)
+        ∙ sym (filter-append is_some (inode.indirect ∷ []) numbers_before_double)
       where
-        behind : filter is_some (near_of ++ doubled_in blocks inode.double) ≡ filter is_some near_of
+        behind : filter is_some (numbers_before_double ++ doubled_in blocks inode.double) ≡ filter is_some numbers_before_double
         behind =
-            filter-append is_some near_of (doubled_in blocks inode.double)
-            ∙ ap (λ l. filter is_some near_of ++ l) (no_double_left blocks inode.double no_double)
-            ∙ append-nil (filter is_some near_of)
+            filter-append is_some numbers_before_double (doubled_in blocks inode.double)
+            ∙ ap (λ l. filter is_some numbers_before_double ++ l) (no_double_left blocks inode.double no_double)
+            ∙ append-nil (filter is_some numbers_before_double)
 
     module _ (none : nat_eq inode.indirect 0 ≡ true) where
       -- without a pointer block all of them pass what those do that the inode names itself
-      pub near_pass : (test : ℕ → Bool) → test 0 ≡ true → list_all test inode.direct ≡ true
+      pub direct_pass : (test : ℕ → Bool) → test 0 ≡ true → list_all test inode.direct ≡ true
           → list_all test (numbers_of blocks inode) ≡ true
-      near_pass test is near = far_pass test is near (none_pass blocks inode.indirect none test is)
+      direct_pass test is lower_part = indirect_pass test is lower_part (none_pass blocks inode.indirect none test is)
 
       -- and it has no other blocks than those
-      pub near_owned : filter is_some (pointer_blocks blocks inode ++ numbers_of blocks inode) ≡ filter is_some inode.direct
-      near_owned =
-          far_owned
+      pub direct_owned : filter is_some (pointer_blocks blocks inode ++ numbers_of blocks inode) ≡ filter is_some inode.direct
+      direct_owned =
+          indirect_owned
           ∙ ap {B = List ℕ} (λ t. cond (not t) (inode.indirect ∷ some) some) none
           ∙ filter-append is_some inode.direct (numbers_in blocks inode.indirect)
           ∙ ap (λ l. filter is_some inode.direct ++ l) (none_left blocks inode.indirect none)

@@ -15,9 +15,9 @@ use Rattle.layout.specs.declared.geometry.Geometry.{Geometry}
 use Rattle.layout.specs.declared.super_block.Super.{Super}
 use Rattle.layout.specs.Fields.{four_bytes, eight_bytes, number_bytes}
 use Rattle.layout.specs.Fresh.{IsFresh, fresh, bit, byte_of, bitmap_block, is_outside, root_inode, root_block}
-use Rattle.layout.specs.InodeForm.{inode_bytes, head_bytes, middle_bytes, tail_bytes}
+use Rattle.layout.specs.InodeForm.{inode_bytes, header_bytes, middle_bytes, tail_bytes}
 use Rattle.layout.specs.Geometry.{bitmap_blocks, inode_bitmap_at, table_at, data_at}
-use Rattle.layout.specs.SuperForm.{MAGIC_BYTES, super_head, super_bytes}
+use Rattle.layout.specs.SuperForm.{MAGIC_BYTES, super_header, super_bytes}
 use Rattle.layout.specs.Version.{number_of_version}
 
 -- each item is a byte
@@ -87,9 +87,9 @@ magic = cons 78 (omega arith)
     (cons 82 (omega arith) (cons 78 (omega arith) (cons 76 (omega arith) (cons 49 (omega arith) nothing)))))))
 
 super_block : (s : Super) → IsBlock (super_bytes s)
-unfolding super_head four_bytes eight_bytes
+unfolding super_header four_bytes eight_bytes
 super_block s = record {
-  long = length-append (super_head s) (replicate (BLOCK_BYTES - 32) 0)
+  long = length-append (super_header s) (replicate (BLOCK_BYTES - 32) 0)
       ∙ ap (λ n. 32 + n) (length-replicate {A = ℕ} (BLOCK_BYTES - 32) 0);
   each = join (join
       (join (join (join
@@ -103,7 +103,7 @@ module _ (moment : Moment) where
   inode = inode_bytes (root_inode moment)
 
   inode_are : IsBytes inode
-  unfolding head_bytes middle_bytes tail_bytes
+  unfolding header_bytes middle_bytes tail_bytes
   inode_are = join (join
       (join (join (join (join (join (four 2) (four ROOT_MODE)) (four 0)) (four 0)) (four 2)) (four 0))
       (join (join (join (join (join (eight 0) (join (four moment.seconds) (four moment.nanoseconds)))
@@ -113,7 +113,7 @@ module _ (moment : Moment) where
       (four 0))
 
   inode-length : length inode ≡ INODE_BYTES
-  unfolding head_bytes middle_bytes tail_bytes four_bytes eight_bytes
+  unfolding header_bytes middle_bytes tail_bytes four_bytes eight_bytes
   inode-length = refl
 
   the_root_block : IsBlock (root_block moment)

@@ -13,7 +13,7 @@ use Rattle.base.specs.declared.TheConstants.{BITS_PER_BLOCK, FIRST_HOME_BLOCK, R
 use Rattle.disk.specs.Crash.{Image}
 use Rattle.nfs_types.specs.declared.ctx.Moment.{Moment}
 use Rattle.nfs_spec.specs.Model.Format.{format_tree, format_root}
-use Rattle.nfs_spec.specs.Model.Node.{DirectoryEntry}
+use Rattle.nfs_spec.specs.Model.Node.{DirentValue}
 use Rattle.nfs_spec.specs.Model.Sound.{SoundTime}
 use Rattle.nfs_spec.specs.Model.Tree.{node_at}
 use Rattle.nfs_spec.proofs.ModelLemmas.Sets.{eq_by_cmp-is}
@@ -28,26 +28,26 @@ use Rattle.layout.specs.Geometry.{IsLawful, bitmap_blocks, inode_bitmap_at, data
 use Rattle.layout.specs.Stands.{geometry_of, file_at}
 use Rattle.layout.proofs.FreshBits.{bit_is}
 use Rattle.layout.proofs.FreshInodes.{free_at, root_at}
-use Rattle.layout.proofs.FileNumbers.{near_owned, near_pass, pass_near_pointers}
+use Rattle.layout.proofs.FileNumbers.{direct_owned, direct_pass, pass_indirect_pointer}
 
 -- ---- the two inodes
 
 module _ (g : Geometry) (image : Image) (moment : Moment) where
-  root_kept : IsDirectory g image (root_inode moment)
+  root_preserved : IsDirectory g image (root_inode moment)
   unfolding named_in
-  root_kept = record {
+  root_preserved = record {
     mapped = record {
-      pointers = pass_near_pointers image (root_inode moment) refl (is_data_block_or_none g) refl refl refl;
-      numbers = near_pass image (root_inode moment) refl refl (is_data_block_or_none g) refl refl;
-      used = pass_near_pointers image (root_inode moment) refl (is_used_pointer image) refl refl refl;
+      pointers = pass_indirect_pointer image (root_inode moment) refl (is_data_block_or_none g) refl refl refl;
+      numbers = direct_pass image (root_inode moment) refl refl (is_data_block_or_none g) refl refl;
+      used = pass_indirect_pointer image (root_inode moment) refl (is_used_pointer image) refl refl refl;
     };
-    spans = near_pass image (root_inode moment) refl refl (λ number. nat_eq number 0) refl refl;
+    spans = direct_pass image (root_inode moment) refl refl (λ number. nat_eq number 0) refl refl;
     slots = λ k d less. absurd (omega (arith, less));
-    once = len-empty (slice_cmp nat_cmp) DirectoryEntry;
+    once = len-empty (slice_cmp nat_cmp) DirentValue;
   }
 
-  free_kept : IsFile g image (Ok None)
-  free_kept = tt
+  free_preserved : IsFile g image (Ok None)
+  free_preserved = tt
 
   root_file : file_of g.inodes image (Ok (Some (root_inode moment))) ≡ Some (format_root moment)
   unfolding named_in
@@ -57,7 +57,7 @@ module _ (g : Geometry) (image : Image) (moment : Moment) where
   no_file = refl
 
   root_owns : owned_by image (Ok (Some (root_inode moment))) ≡ []
-  root_owns = near_owned image (root_inode moment) refl refl
+  root_owns = direct_owned image (root_inode moment) refl refl
 
   free_owns : owned_by image (Ok None) ≡ []
   free_owns = refl
@@ -129,8 +129,8 @@ module _ (g : Geometry) (moment : Moment) (image : Image) (lawful : IsLawful g.b
 
   pub mapped : (number : ℕ) → number < g.inodes → IsFile g content (table_of g image number)
   mapped number less = elim (cases_eq number 1) [
-    | inl is ↦ subst (IsFile g content) (sym (root_there number is)) (root_kept g content moment)
-    | inr not ↦ subst (IsFile g content) (sym (free_is number less not)) (free_kept g content moment)
+    | inl is ↦ subst (IsFile g content) (sym (root_there number is)) (root_preserved g content moment)
+    | inr not ↦ subst (IsFile g content) (sym (free_is number less not)) (free_preserved g content moment)
   ]
 
   in_tree : (number : ℕ)

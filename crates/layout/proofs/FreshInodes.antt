@@ -15,7 +15,7 @@ use Rattle.layout.specs.declared.inode.InodeKind.TheVariants.{Directory}
 use Rattle.layout.specs.Decode.{inode_at}
 use Rattle.layout.specs.Fields.{four_at, eight_at, numbers_at, four_bytes, eight_bytes, is_zeros}
 use Rattle.layout.specs.Fresh.{HasFreshHomes, root_inode, root_block}
-use Rattle.layout.specs.InodeForm.{read_inode, fields_of, is_sound_inode, inode_bytes, head_bytes}
+use Rattle.layout.specs.InodeForm.{read_inode, fields_of, is_sound_inode, inode_bytes, header_bytes}
 use Rattle.layout.specs.InodeForm.{middle_bytes, tail_bytes, rest_is_zero, kind_of_number}
 use Rattle.layout.specs.Geometry.{IsLawful, table_at}
 use Rattle.layout.specs.Places.{inode_block, inode_offset}
@@ -31,7 +31,7 @@ module _ (moment : Moment) (now : SoundTime moment) where
   bytes = inode_bytes (root_inode moment)
 
   bytes-length : length bytes ≡ INODE_BYTES
-  unfolding head_bytes middle_bytes tail_bytes four_bytes eight_bytes
+  unfolding header_bytes middle_bytes tail_bytes four_bytes eight_bytes
   bytes-length = refl
 
   time : record {
@@ -44,19 +44,19 @@ module _ (moment : Moment) (now : SoundTime moment) where
   }
 
   pub fields : fields_of Directory bytes ≡ root_inode moment
-  unfolding fields_of four_at eight_at numbers_at head_bytes middle_bytes tail_bytes four_bytes eight_bytes
+  unfolding fields_of four_at eight_at numbers_at header_bytes middle_bytes tail_bytes four_bytes eight_bytes
   fields = λ i. record (root_inode moment) { atime = time i; mtime = time i; ctime = time i }
 
   kind : kind_of_number (four_at 0 bytes) ≡ Some Directory
-  unfolding four_at eight_at head_bytes middle_bytes tail_bytes four_bytes eight_bytes
+  unfolding four_at eight_at header_bytes middle_bytes tail_bytes four_bytes eight_bytes
   kind = refl
 
   some_bytes : is_zeros bytes ≡ false
-  unfolding head_bytes four_bytes
+  unfolding header_bytes four_bytes
   some_bytes = refl
 
   rest : rest_is_zero bytes ≡ true
-  unfolding four_at eight_at head_bytes middle_bytes tail_bytes four_bytes eight_bytes
+  unfolding four_at eight_at header_bytes middle_bytes tail_bytes four_bytes eight_bytes
   rest = refl
 
   is_sound : (g : Geometry) → 1 < g.inodes → is_sound_inode g (root_inode moment) ≡ true

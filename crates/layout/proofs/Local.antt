@@ -16,7 +16,7 @@ use Rattle.layout.specs.declared.inode.InodeKind.{InodeKind}
 use Rattle.layout.specs.declared.inode.InodeKind.TheVariants.{Regular, Directory, Link}
 use Rattle.layout.specs.Decode.{numbers_of, content_of, bytes_of, mapped_of, span_of, slot_bytes}
 use Rattle.layout.specs.declared.slot.TheConstants.{SLOT_BYTES}
-use Rattle.layout.specs.Decode.{slots_of, entry_in, named_in, node_with, body_of, file_of, IsMapped}
+use Rattle.layout.specs.Decode.{slots_of, dirent_in, named_in, node_with, body_of, file_of, IsMapped}
 use Rattle.layout.specs.Decode.{IsOfKind, IsFile, is_used_pointer, numbers_in, pointer_blocks}
 use Rattle.layout.specs.Fields.{is_zeros}
 use Rattle.layout.specs.InodeForm.{is_data_block_or_none, names_first}
@@ -39,8 +39,8 @@ module _ (P : ℕ → Type 0) where
   first true x xs all = (λ no. cc, all)
   first false x xs all = (λ no. all.0, all.1)
 
-abbrev entry_count : List (List ℕ × model.DirectoryEntry) → ℕ
-entry_count entries = map.len (map.from_entries {R = slice_cmp nat_cmp} entries)
+abbrev dirent_count : List (List ℕ × model.DirentValue) → ℕ
+dirent_count entries = map.len (map.from_entries {R = slice_cmp nat_cmp} entries)
 
 module _ (a b : Image) where
   abbrev IsSame : ℕ → Type 0
@@ -85,11 +85,11 @@ module _ (a b : Image) where
     both : ArePointersSame a b (pointer_blocks a inode) × AreSame (some (numbers_of a inode))
     both = parted (pointer_blocks a inode) (numbers_of a inode) same
 
-    kept : (numbers_of b inode ≡ numbers_of a inode) × (pointer_blocks b inode ≡ pointer_blocks a inode)
-    kept = same_numbers a b inode both.0
+    is_preserved : (numbers_of b inode ≡ numbers_of a inode) × (pointer_blocks b inode ≡ pointer_blocks a inode)
+    is_preserved = same_numbers a b inode both.0
 
     numbers : numbers_of b inode ≡ numbers_of a inode
-    numbers = kept.0
+    numbers = is_preserved.0
 
     each : AllByRecursion IsAlike (numbers_of a inode)
     each = same_parts (numbers_of a inode) both.1
@@ -117,13 +117,13 @@ module _ (a b : Image) where
     named : (inodes : ℕ) → named_in inodes b inode ≡ named_in inodes a inode
     unfolding named_in
     named inodes =
-        λ i. filter_map (λ index. entry_in index (read_slot inodes (slot i index))) (slots_of inode)
+        λ i. filter_map (λ index. dirent_in index (read_slot inodes (slot i index))) (slots_of inode)
 
     mapped : (g : Geometry) → IsMapped g a inode → IsMapped g b inode
     mapped g m = record {
-      pointers = ap (list_all (is_data_block_or_none g)) kept.1 ∙ m.pointers;
+      pointers = ap (list_all (is_data_block_or_none g)) is_preserved.1 ∙ m.pointers;
       numbers = ap (list_all (is_data_block_or_none g)) numbers ∙ m.numbers;
-      used = ap (list_all (is_used_pointer b)) kept.1
+      used = ap (list_all (is_used_pointer b)) is_preserved.1
           ∙ used_alike (pointer_blocks a inode) (same_pointers a b (pointer_blocks a inode) both.0) ∙ m.used;
     }
 
@@ -137,7 +137,7 @@ module _ (a b : Image) where
       spans = ap (names_first (span_of inode)) numbers ∙ is.spans;
       slots = subst (λ (f : ℕ → List ℕ). All (λ index. IsOk (read_slot g.inodes (f index))) (slots_of inode))
           (sym slot) is.slots;
-      once = ap entry_count (named g.inodes) ∙ is.once ∙ ap length (sym (named g.inodes));
+      once = ap dirent_count (named g.inodes) ∙ is.once ∙ ap length (sym (named g.inodes));
     }
     of_kind g Link is = record { zeros = ap (λ bs. is_zeros (drop inode.size bs)) target ∙ is.zeros }
 
@@ -148,7 +148,7 @@ module _ (a b : Image) where
     body inodes Link = λ i. model.Link (take inode.size (target i))
 
     owned_same : owned_by b (Ok (Some inode)) ≡ owned_by a (Ok (Some inode))
-    owned_same = λ i. some (kept.1 i ++ kept.0 i)
+    owned_same = λ i. some (is_preserved.1 i ++ is_preserved.0 i)
 
   -- its rules, its node and its blocks, where its blocks are the same
   pub same_rules : (g : Geometry) (read : Result (Option Inode) LayoutFault) → AreSame (owned_by a read)

@@ -70,25 +70,25 @@ mapped-len numbers =
 -- ---- whether an index is kept that the inode doesn't name directly
 
 module _ (c : ℕ) (f q : ℕ → Bool) where
-  abbrev far : ℕ → Bool
-  far index = nat_le c index
+  abbrev indirect_block : ℕ → Bool
+  indirect_block index = nat_le c index
 
-  low : (b : Bool) (a : ℕ) (xs : List ℕ) → far a ≡ false → list_any far (cond b (a ∷ xs) xs) ≡ list_any far xs
-  low true a xs is = ap (λ t. t || list_any far xs) is
+  low : (b : Bool) (a : ℕ) (xs : List ℕ) → indirect_block a ≡ false → list_any indirect_block (cond b (a ∷ xs) xs) ≡ list_any indirect_block xs
+  low true a xs is = ap (λ t. t || list_any indirect_block xs) is
   low false a xs is = refl
 
-  high : (b : Bool) (a : ℕ) (xs : List ℕ) → far a ≡ true
-      → list_any far (cond b (a ∷ xs) xs) ≡ (b || list_any far xs)
-  high true a xs is = ap (λ t. t || list_any far xs) is
+  high : (b : Bool) (a : ℕ) (xs : List ℕ) → indirect_block a ≡ true
+      → list_any indirect_block (cond b (a ∷ xs) xs) ≡ (b || list_any indirect_block xs)
+  high true a xs is = ap (λ t. t || list_any indirect_block xs) is
   high false a xs is = refl
 
-  far_is : (xs : List ℕ) (a : ℕ) → ((k : ℕ) → f (a + k) ≡ q (get_or xs k 0))
-      → list_any far (filter f (range_with_len a (length xs))) ≡ list_any q (drop (c - a) xs)
-  far_is [] a same = sym (ap (list_any q) (drop-nil (c - a)))
-  far_is (x ∷ xs) a same =
+  indirect_is : (xs : List ℕ) (a : ℕ) → ((k : ℕ) → f (a + k) ≡ q (get_or xs k 0))
+      → list_any indirect_block (filter f (range_with_len a (length xs))) ≡ list_any q (drop (c - a) xs)
+  indirect_is [] a same = sym (ap (list_any q) (drop-nil (c - a)))
+  indirect_is (x ∷ xs) a same =
       let here : f a ≡ q x = ap f (omega arith) ∙ same 0 in
-      let rest : list_any far (filter f (range_with_len (a + 1) (length xs)))
-      ≡ list_any q (drop (c - (a + 1)) xs) = far_is xs (a + 1) (λ k. ap f (omega arith) ∙ same (suc k)) in
+      let rest : list_any indirect_block (filter f (range_with_len (a + 1) (length xs)))
+      ≡ list_any q (drop (c - (a + 1)) xs) = indirect_is xs (a + 1) (λ k. ap f (omega arith) ∙ same (suc k)) in
       elim (leb_tells c a) [
         | inl past ↦
             let now : c - a ≡ 0 = omega (arith, past.1) in
@@ -105,13 +105,13 @@ module _ (c : ℕ) (f q : ℕ → Bool) where
 abbrev pub is_some : ℕ → Bool
 is_some number = not (nat_eq number 0)
 
-pub mapped-far : (c : ℕ) (numbers : List ℕ)
+pub mapped-indirect_block : (c : ℕ) (numbers : List ℕ)
     → list_any (λ index. nat_le c index) (set.items (mapped_of numbers)) ≡ list_any is_some (drop c numbers)
 unfolding mapped_of
-mapped-far c numbers =
+mapped-indirect_block c numbers =
     any_items (λ index. nat_le c index)
     (filter (λ index. is_some (get_or numbers index 0)) (range_with_len 0 (length numbers)))
-    ∙ far_is c (λ index. is_some (get_or numbers index 0)) is_some numbers 0
+    ∙ indirect_is c (λ index. is_some (get_or numbers index 0)) is_some numbers 0
     (λ k. ap (λ i. is_some (get_or numbers i 0)) (omega arith))
     ∙ ap (λ k. list_any is_some (drop k numbers)) (omega arith)
 
@@ -218,4 +218,4 @@ pub regular-cost : (numbers : List ℕ)
 regular-cost numbers =
     λ i. mapped-len numbers i
     + cond (mapped-between DIRECT_INDEXES FIRST_DOUBLE_INDEX INDIRECT_INDEXES numbers (omega arith) i) 1 0
-    + cond (mapped-far FIRST_DOUBLE_INDEX numbers i) 1 0 + inner-cost INDIRECT_INDEXES numbers i
+    + cond (mapped-indirect_block FIRST_DOUBLE_INDEX numbers i) 1 0 + inner-cost INDIRECT_INDEXES numbers i

@@ -59,6 +59,6 @@ module _ (g : Geometry) (bytes : List ℕ) (are : AreBytes bytes) (long : length
 
   pub refused : list_all (is_data_block_or_none g) all ≡ false
       → (list : List ℕ) → IsNumbers g bytes list → ⊥
-  refused no_place list is =
+  refused some_unplaced list is =
       let clash : true ≡ false = sym is.sound.places
-      ∙ ap (list_all (is_data_block_or_none g)) (numbers_are list is) ∙ no_place in cc
+      ∙ ap (list_all (is_data_block_or_none g)) (numbers_are list is) ∙ some_unplaced in cc

@@ -12,7 +12,7 @@ use Rattle.layout.specs.Decode.{doubled_in, numbers_in}
 use Rattle.layout.specs.Fields.{count_of, numbers_at}
 use Rattle.layout.specs.InodeForm.{is_data_block_or_none}
 use Rattle.layout.proofs.NumbersAt.{numbers-length}
-use Rattle.layout.proofs.Pieces.{piece_at, pieces-length, pieces_kept, pieces_pass, same_pieces}
+use Rattle.layout.proofs.Pieces.{piece_at, pieces-length, pieces_retained, pieces_pass, same_pieces}
 
 abbrev is_some : ℕ → Bool
 is_some number = not (nat_eq number 0)
@@ -40,9 +40,9 @@ no_zero : (n : ℕ) → list_any is_some (replicate n 0) ≡ false
 no_zero zero = refl
 no_zero (suc n) = no_zero n
 
-none_kept : (n : ℕ) → filter is_some (replicate n 0) ≡ []
-none_kept zero = refl
-none_kept (suc n) = none_kept n
+none_retained : (n : ℕ) → filter is_some (replicate n 0) ≡ []
+none_retained zero = refl
+none_retained (suc n) = none_retained n
 
 zero_more : (k : ℕ) → k ≡ 0 → 0 + k ≡ 0
 zero_more k e = omega (arith, e)
@@ -94,7 +94,7 @@ module _ (blocks : Image) (number : ℕ) where
     none_some = as_zeros (λ l. list_any is_some l ≡ false) no_zero
 
     pub none_left : filter is_some (numbers_in blocks number) ≡ []
-    none_left = as_zeros (λ l. filter is_some l ≡ []) none_kept
+    none_left = as_zeros (λ l. filter is_some l ≡ []) none_retained
 
     pub none_count : count_of (numbers_in blocks number) ≡ 0
     none_count = as_zeros (λ l. count_of l ≡ 0) none_counted
@@ -162,7 +162,7 @@ module _ (blocks : Image) (number : ℕ) where
     pub no_double_left : filter is_some (doubled_in blocks number) ≡ []
     unfolding doubled_in
     no_double_left =
-        pieces_kept (numbers_in blocks) is_some (numbers_in blocks number)
+        pieces_retained (numbers_in blocks) is_some (numbers_in blocks number)
         (λ i less. nothing_at blocks (get_or (numbers_in blocks number) i 0) (none_at blocks number none i))
 
 -- they look at the double block and its inner blocks alone
@@ -179,14 +179,14 @@ same_doubled one two number other same =
 
 -- ---- lists without the number of a block
 
-kept_more : (b : Bool) (x : ℕ) (xs : List ℕ) → cond b (x ∷ xs) xs ≡ [] → (b ≡ false) × (xs ≡ [])
-kept_more true x xs e = cc
-kept_more false x xs e = (refl, e)
+retained_more : (b : Bool) (x : ℕ) (xs : List ℕ) → cond b (x ∷ xs) xs ≡ [] → (b ≡ false) × (xs ≡ [])
+retained_more true x xs e = cc
+retained_more false x xs e = (refl, e)
 
 pub left_any : (xs : List ℕ) → filter is_some xs ≡ [] → list_any is_some xs ≡ false
 left_any [] none = refl
 left_any (x ∷ xs) none =
-    let both = kept_more (is_some x) x (filter is_some xs) none in
+    let both = retained_more (is_some x) x (filter is_some xs) none in
     ap (λ t. t || list_any is_some xs) both.0 ∙ left_any xs both.1
 
 pub left_count : (xs : List ℕ) → filter is_some xs ≡ [] → count_of xs ≡ 0

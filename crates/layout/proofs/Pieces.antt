@@ -68,12 +68,12 @@ module _ (f : ℕ → List ℕ) (test : ℕ → Bool) where
       list_all-append test (f x) (flat_map f xs) ∙ ap (λ t. list_all test (f x) && t) (pieces_pass xs)
 
   -- pieces in which nothing is kept
-  pub pieces_kept : (xs : List ℕ) → ((i : ℕ) → i < length xs → filter test (f (get_or xs i 0)) ≡ [])
+  pub pieces_retained : (xs : List ℕ) → ((i : ℕ) → i < length xs → filter test (f (get_or xs i 0)) ≡ [])
       → filter test (flat_map f xs) ≡ []
-  pieces_kept [] none = refl
-  pieces_kept (x ∷ xs) none =
+  pieces_retained [] none = refl
+  pieces_retained (x ∷ xs) none =
       let here : filter test (f x) ≡ [] = none 0 (omega arith) in
-      let rest : filter test (flat_map f xs) ≡ [] = pieces_kept xs (λ i less. none (suc i) (omega (arith, less))) in
+      let rest : filter test (flat_map f xs) ≡ [] = pieces_retained xs (λ i less. none (suc i) (omega (arith, less))) in
       filter-append test (f x) (flat_map f xs) ∙ (λ i. here i ++ rest i)
 
 -- pieces of zeros

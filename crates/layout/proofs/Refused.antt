@@ -39,10 +39,10 @@ module _ {X : Type 0} (IsThere : X → Type 0) (read : Result X LayoutFault)
       by_result (Err other) e = e ∙ ap (λ f. Err f) (fault_is other e ∙ sym none.0)
 
   -- so of what is answered
-  pub told_ok : (found : Result X LayoutFault) → found ≡ read → IfOk found IsThere
-  told_ok (Ok one) e = read_is one (sym e)
-  told_ok (Err fault) e = tt
+  pub read_or_ok : (found : Result X LayoutFault) → found ≡ read → IfOk found IsThere
+  read_or_ok (Ok one) e = read_is one (sym e)
+  read_or_ok (Err fault) e = tt
 
-  pub told_err : (found : Result X LayoutFault) → found ≡ read → IfErr found IsRefused
-  told_err (Ok one) e = tt
-  told_err (Err fault) e = refused fault (sym e)
+  pub read_or_err : (found : Result X LayoutFault) → found ≡ read → IfErr found IsRefused
+  read_or_err (Ok one) e = tt
+  read_or_err (Err fault) e = refused fault (sym e)

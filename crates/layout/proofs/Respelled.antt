@@ -13,7 +13,7 @@ use Rattle.layout.specs.declared.inode.InodeKind.{InodeKind}
 use Rattle.layout.specs.declared.inode.InodeKind.TheVariants.{Regular, Directory, Link}
 use Rattle.layout.specs.Fields.{four_at, eight_at, numbers_at, four_bytes, eight_bytes, number_bytes, is_zeros}
 use Rattle.layout.specs.InodeForm.{kind_of_number, number_of_kind, fields_of, rest_is_zero}
-use Rattle.layout.specs.InodeForm.{verifier_at, verifier_bytes, time_at, time_bytes, head_bytes, middle_bytes}
+use Rattle.layout.specs.InodeForm.{verifier_at, verifier_bytes, time_at, time_bytes, header_bytes, middle_bytes}
 use Rattle.layout.specs.InodeForm.{tail_bytes}
 use Rattle.layout.specs.InodeForm.{inode_bytes}
 use Rattle.layout.proofs.Fits.{part-length}
@@ -108,8 +108,8 @@ module _ (bytes : List ℕ) (are : AreBytes bytes) where
     time at few = followed at 4 4 _ _ (four at (omega (arith, few))) (four (at + 4) (omega (arith, few)))
 
     head : (kind : InodeKind) → four_at 0 bytes ≡ number_of_kind kind → four_at 20 bytes ≡ 0
-        → head_bytes (fields_of kind bytes) ≡ part 0 24
-    unfolding fields_of head_bytes
+        → header_bytes (fields_of kind bytes) ≡ part 0 24
+    unfolding fields_of header_bytes
     head kind is gap =
         followed 0 20 4 _ _
         (followed 0 16 4 _ _

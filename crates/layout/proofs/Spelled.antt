@@ -14,7 +14,7 @@ use Rattle.layout.specs.declared.inode.InodeKind.{InodeKind}
 use Rattle.layout.specs.declared.inode.InodeKind.TheVariants.{Regular, Directory, Link}
 use Rattle.layout.specs.Fields.{four_at, eight_at, numbers_at, four_bytes, eight_bytes, is_zeros}
 use Rattle.layout.specs.InodeForm.{FitsInode, FitsMoment, read_inode, fields_of, is_sound_inode, inode_bytes}
-use Rattle.layout.specs.InodeForm.{head_bytes, middle_bytes, tail_bytes, rest_is_zero, kind_of_number}
+use Rattle.layout.specs.InodeForm.{header_bytes, middle_bytes, tail_bytes, rest_is_zero, kind_of_number}
 use Rattle.layout.specs.InodeForm.{number_of_kind}
 use Rattle.layout.proofs.ReadInode.{sound}
 
@@ -69,7 +69,7 @@ module _ (inode : Inode) (fits : FitsInode inode) where
   -- the numbers of blocks, whatever eight they are
   none_read : (direct : List ℕ) → length direct ≡ DIRECT_INDEXES → AllByRecursion Fits direct
       → IsRead None direct
-  unfolding fields_of four_at eight_at numbers_at head_bytes middle_bytes tail_bytes four_bytes eight_bytes
+  unfolding fields_of four_at eight_at numbers_at header_bytes middle_bytes tail_bytes four_bytes eight_bytes
   none_read direct long =
       eight_of (λ ds. AllByRecursion Fits ds → IsRead None ds)
       (λ d0 d1 d2 d3 d4 d5 d6 d7 all. λ i. record inode {
@@ -96,7 +96,7 @@ module _ (inode : Inode) (fits : FitsInode inode) where
 
   given_read : (bytes : List ℕ) → length bytes ≡ VERIFIER_BYTES → (direct : List ℕ)
       → length direct ≡ DIRECT_INDEXES → AllByRecursion Fits direct → IsRead (made bytes) direct
-  unfolding fields_of four_at eight_at numbers_at head_bytes middle_bytes tail_bytes four_bytes eight_bytes
+  unfolding fields_of four_at eight_at numbers_at header_bytes middle_bytes tail_bytes four_bytes eight_bytes
   given_read bytes count direct long =
       eight_of (λ bs. AllByRecursion Fits direct → IsRead (made bs) direct)
       (λ b0 b1 b2 b3 b4 b5 b6 b7. eight_of (λ ds. AllByRecursion Fits ds
@@ -132,7 +132,7 @@ module _ (inode : Inode) (fits : FitsInode inode) where
   zero_rest : (verifier : Option Verifier) → IfSome verifier VerifierFits → (direct : List ℕ)
       → length direct ≡ DIRECT_INDEXES
       → rest_is_zero (inode_bytes (with inode verifier direct)) ≡ true
-  unfolding four_at eight_at head_bytes middle_bytes tail_bytes four_bytes eight_bytes
+  unfolding four_at eight_at header_bytes middle_bytes tail_bytes four_bytes eight_bytes
   zero_rest None v direct long =
       eight_of (λ ds. rest_is_zero (inode_bytes (with inode None ds)) ≡ true)
       (λ d0 d1 d2 d3 d4 d5 d6 d7. refl) direct long
@@ -145,7 +145,7 @@ module _ (inode : Inode) (fits : FitsInode inode) where
 
   pub bytes-length : (verifier : Option Verifier) → IfSome verifier VerifierFits → (direct : List ℕ)
       → length direct ≡ DIRECT_INDEXES → length (inode_bytes (with inode verifier direct)) ≡ INODE_BYTES
-  unfolding head_bytes middle_bytes tail_bytes four_bytes eight_bytes
+  unfolding header_bytes middle_bytes tail_bytes four_bytes eight_bytes
   bytes-length None v direct long =
       eight_of (λ ds. length (inode_bytes (with inode None ds)) ≡ INODE_BYTES)
       (λ d0 d1 d2 d3 d4 d5 d6 d7. refl) direct long
@@ -162,12 +162,12 @@ module _ (inode : Inode) (fits : FitsInode inode) where
   kind_back Link = refl
 
   kind_is : kind_of_number (four_at 0 (inode_bytes inode)) ≡ Some inode.kind
-  unfolding four_at head_bytes four_bytes
+  unfolding four_at header_bytes four_bytes
   kind_is = kind_back inode.kind
 
   -- the number of a kind isn't zero
   some_kind : (kind : InodeKind) → is_zeros (inode_bytes (record inode { kind = kind })) ≡ false
-  unfolding head_bytes four_bytes
+  unfolding header_bytes four_bytes
   some_kind Regular = refl
   some_kind Directory = refl
   some_kind Link = refl

@@ -7,7 +7,7 @@ use Rattle.nfs_types.specs.Fits.{AreBytes}
 use Rattle.layout.specs.declared.super_block.Super.{Super}
 use Rattle.layout.specs.declared.version.FormatVersion.{FormatVersion}
 use Rattle.layout.specs.Fields.{four_at, four_bytes, eight_bytes, is_zeros}
-use Rattle.layout.specs.SuperForm.{IsSuper, super_head, super_bytes}
+use Rattle.layout.specs.SuperForm.{IsSuper, super_header, super_bytes}
 use Rattle.layout.proofs.Respelled.{all_two, same_number, all_zeros, first_four, first_eight, followed, part}
 use Rattle.layout.proofs.OneGeometry.{one_geometry}
 use Rattle.layout.proofs.Versions.{number_is}
@@ -20,8 +20,8 @@ module _ (bytes : List ℕ) (s : Super) (are : AreBytes bytes) (long : length by
   unused : (nat_eq (four_at 20 bytes) 0 ≡ true) × (is_zeros (drop 32 bytes) ≡ true)
   unused = all_two (nat_eq (four_at 20 bytes) 0) (is_zeros (drop 32 bytes)) is.sizes.unused
 
-  head : super_head s ≡ part bytes are 0 32
-  unfolding super_head
+  head : super_header s ≡ part bytes are 0 32
+  unfolding super_header
   head =
       followed bytes are 0 24 8 _ _
       (followed bytes are 0 20 4 _ _

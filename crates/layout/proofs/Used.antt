@@ -13,7 +13,7 @@ use Rattle.layout.specs.declared.inode.Inode.{Inode}
 use Rattle.layout.specs.Decode.{doubled_in, is_used_pointer, numbers_in, numbers_of, mapped_of, pointer_blocks, IsMapped}
 use Rattle.layout.specs.Fields.{count_of}
 use Rattle.layout.specs.Owners.{owned_by}
-use Rattle.layout.proofs.FileNumbers.{inner_part, middle, past_near, pointers_pass}
+use Rattle.layout.proofs.FileNumbers.{inner_part, middle, past_indirect, pointers_pass}
 use Rattle.layout.proofs.Mapped.{inner_numbers, is_some, regular-cost}
 use Rattle.layout.proofs.NumbersIn.{in_length, none_some}
 use Rattle.layout.proofs.Respelled.{all_two}
@@ -79,14 +79,14 @@ module _ (g : Geometry) (content : Image) (inode : Inode) (direct : length inode
   parts = pointers_pass content inode (is_used_pointer content) mapped.used
 
   -- each kind of pointer block is there just where a number is that it names
-  pub far_any : list_any is_some (take INDIRECT_INDEXES (drop DIRECT_INDEXES (numbers_of content inode)))
+  pub any_indirect : list_any is_some (take INDIRECT_INDEXES (drop DIRECT_INDEXES (numbers_of content inode)))
       ≡ is_some inode.indirect
-  far_any = ap (list_any is_some) (middle content inode direct) ∙ used_is content inode.indirect parts.0
+  any_indirect = ap (list_any is_some) (middle content inode direct) ∙ used_is content inode.indirect parts.0
 
   pub double_any : list_any is_some (drop FIRST_DOUBLE_INDEX (numbers_of content inode)) ≡ is_some inode.double
   unfolding doubled_in
   double_any =
-      ap (list_any is_some) (past_near content inode direct)
+      ap (list_any is_some) (past_indirect content inode direct)
       ∙ any_pieces content (numbers_in content inode.double) parts.2
       ∙ used_is content inode.double parts.1
 
@@ -115,7 +115,7 @@ module _ (g : Geometry) (content : Image) (inode : Inode) (direct : length inode
       ≡ count_of (numbers_of content inode) + count_of (pointer_blocks content inode)
   regular_held =
       regular-cost (numbers_of content inode)
-      ∙ (λ i. count_of (numbers_of content inode) + cond (far_any i) 1 0 + cond (double_any i) 1 0 + inner_count i)
+      ∙ (λ i. count_of (numbers_of content inode) + cond (any_indirect i) 1 0 + cond (double_any i) 1 0 + inner_count i)
       ∙ joined (count_of (numbers_of content inode)) (cond (is_some inode.indirect) 1 0)
       (cond (is_some inode.double) 1 0) (count_of (numbers_in content inode.double))
       ∙ ap (λ k. count_of (numbers_of content inode) + k) (sym (pointers_counted content inode))

@@ -81,8 +81,8 @@ module _ (g : Geometry) (blocks : Image) (n : ℕ) (bytes : List ℕ) (one : Opt
   abbrev written : Image
   written = with_bytes blocks at (inode_offset n) bytes
 
-  room : inode_offset n + length bytes ≤ length (blocks at)
-  room = omega (arith, long, size)
+  has_space : inode_offset n + length bytes ≤ length (blocks at)
+  has_space = omega (arith, long, size)
 
   itself : inode_at g written n ≡ Ok one
   unfolding inode_at
@@ -91,20 +91,20 @@ module _ (g : Geometry) (blocks : Image) (n : ℕ) (bytes : List ℕ) (one : Opt
       (here blocks at (inode_offset n) bytes)
       ∙ ap (λ k. read_inode g
       (take k (drop (inode_offset n) (spliced (blocks at) (inode_offset n) bytes)))) (sym size)
-      ∙ ap (read_inode g) (there (blocks at) bytes (inode_offset n) room)
+      ∙ ap (read_inode g) (there (blocks at) bytes (inode_offset n) has_space)
       ∙ reads
 
   -- another inode of the same block
-  beside : (m : ℕ) → (m ≡ n → ⊥) → inode_block g m ≡ at
+  unaffected : (m : ℕ) → (m ≡ n → ⊥) → inode_block g m ≡ at
       → part_of written at m ≡ part_of blocks at m
-  beside m not same =
+  unaffected m not same =
       ap (λ content. take INODE_BYTES (drop (inode_offset m) content)) (here blocks at (inode_offset n) bytes)
       ∙ (elim (cases_lt (m % INODES_PER_BLOCK) (n % INODES_PER_BLOCK)) [
-        | inl low ↦ ahead (blocks at) bytes (inode_offset n) room (inode_offset m) INODE_BYTES
+        | inl low ↦ ahead (blocks at) bytes (inode_offset n) has_space (inode_offset m) INODE_BYTES
             (omega (arith, low))
         | inr high ↦ (elim (cases_eq (m % INODES_PER_BLOCK) (n % INODES_PER_BLOCK)) [
           | inl equal ↦ absurd (not (omega (arith, same, equal)))
-          | inr other ↦ behind (blocks at) bytes (inode_offset n) room (inode_offset m) INODE_BYTES
+          | inr other ↦ behind (blocks at) bytes (inode_offset n) has_space (inode_offset m) INODE_BYTES
               (apart (m % INODES_PER_BLOCK) (n % INODES_PER_BLOCK) high other size)
         ])
       ])
@@ -122,7 +122,7 @@ module _ (g : Geometry) (blocks : Image) (n : ℕ) (bytes : List ℕ) (one : Opt
   others m not = elim (cases_eq (inode_block g m) at) [
     | inl same ↦
         ap (λ block. read_inode g (part_of written block m)) same
-        ∙ ap (read_inode g) (beside m not same)
+        ∙ ap (read_inode g) (unaffected m not same)
         ∙ ap (λ block. read_inode g (part_of blocks block m)) (sym same)
     | inr other ↦ ap
         (λ content. read_inode g (take INODE_BYTES (drop (inode_offset m) content)))

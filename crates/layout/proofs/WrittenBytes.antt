@@ -6,7 +6,7 @@ use Rattle.std.proofs.lemmas.Bool.{cases_lt}
 use Rattle.nfs_types.specs.declared.verifier.Verifier.{Verifier}
 use Rattle.nfs_types.specs.Fits.{AreBytes, VerifierFits}
 use Rattle.layout.specs.declared.inode.Inode.{Inode}
-use Rattle.layout.specs.InodeForm.{inode_bytes, head_bytes, middle_bytes, tail_bytes, number_of_kind}
+use Rattle.layout.specs.InodeForm.{inode_bytes, header_bytes, middle_bytes, tail_bytes, number_of_kind}
 use Rattle.layout.specs.InodeForm.{verifier_bytes, FitsInode}
 use Rattle.objects.specs.Spliced.{spliced}
 use Rattle.layout.proofs.FreshBytes.{IsBytes, join, four, eight, fours}
@@ -36,7 +36,7 @@ verifiers None fits = join (four 0) (eight 0)
 verifiers (Some v) fits = join (four 1) (record { are = fits.each })
 
 pub inode_are : (i : Inode) → FitsInode i → IsBytes (inode_bytes i)
-unfolding head_bytes middle_bytes tail_bytes
+unfolding header_bytes middle_bytes tail_bytes
 inode_are i fits = join (join
     (join (join (join (join (join (four (number_of_kind i.kind)) (four i.mode)) (four i.uid)) (four i.gid))
     (four i.nlink)) (four 0))

@@ -87,10 +87,10 @@ module _ (bytes : List ℕ) where
   -- 32 zeros, and behind them or before their end zeros to the end
   joined : (from past : ℕ) → from ≤ past → past ≤ from + 32 → are from 32 ≡ true → is_zeros (drop past bytes) ≡ true
       → is_zeros (drop from bytes) ≡ true
-  joined from past less near here behind =
+  joined from past less lower_part here behind =
       rest_split from past less
       ∙ both (are from (past - from)) (is_zeros (drop past bytes))
-      (fewer from (past - from) 32 (omega (arith, near)) here) behind
+      (fewer from (past - from) 32 (omega (arith, lower_part)) here) behind
 
   module _ (count : ℕ) (long : length bytes ≡ SLOT_BYTES) (few : count ≤ 24) where
     last : are 96 32 ≡ true → is_zeros (drop 96 bytes) ≡ true

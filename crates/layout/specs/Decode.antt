@@ -8,7 +8,7 @@ use Rattle.std.specs.FinMap as map
 use Rattle.std.specs.FinSet as set
 use Rattle.base.specs.declared.TheConstants.{BLOCK_BYTES, INDIRECT_INDEXES, INODE_BYTES, SLOTS_PER_BLOCK}
 use Rattle.disk.specs.Crash.{Image}
-use Rattle.nfs_spec.specs.Model.Node.{Node, Body, Entries, DirectoryEntry}
+use Rattle.nfs_spec.specs.Model.Node.{Node, Body, Entries, DirentValue}
 use Rattle.nfs_spec.specs.Model.Node as model
 use Rattle.layout.specs.declared.fault.LayoutFault.{LayoutFault}
 use Rattle.layout.specs.declared.geometry.Geometry.{Geometry}
@@ -76,15 +76,15 @@ abbrev pub slots_of : Inode → List ℕ
 slots_of inode = range_with_len 0 (SLOTS_PER_BLOCK * span_of inode)
 
 -- the entry in a slot, under its name
-abbrev pub entry_in : ℕ → Result (Option Slot) LayoutFault → Option (List ℕ × DirectoryEntry)
-entry_in index (Ok (Some slot)) = Some (slot.name, record { number = slot.number; slot = index })
-entry_in index (Ok None) = None
-entry_in index (Err fault) = None
+abbrev pub dirent_in : ℕ → Result (Option Slot) LayoutFault → Option (List ℕ × DirentValue)
+dirent_in index (Ok (Some slot)) = Some (slot.name, record { number = slot.number; slot = index })
+dirent_in index (Ok None) = None
+dirent_in index (Err fault) = None
 
 -- the entries of a directory in the order of their slots
-unfoldable pub named_in : ℕ → Image → Inode → List (List ℕ × DirectoryEntry)
+unfoldable pub named_in : ℕ → Image → Inode → List (List ℕ × DirentValue)
 named_in inodes blocks inode =
-    filter_map (λ index. entry_in index (read_slot inodes (slot_bytes blocks inode index))) (slots_of inode)
+    filter_map (λ index. dirent_in index (read_slot inodes (slot_bytes blocks inode index))) (slots_of inode)
 
 abbrev pub entries_in : ℕ → Image → Inode → Entries
 entries_in inodes blocks inode = map.from_entries (named_in inodes blocks inode)

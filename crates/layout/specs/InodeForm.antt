@@ -159,8 +159,8 @@ verifier_bytes None = four_bytes 0 ++ eight_bytes 0
 verifier_bytes (Some verifier) = four_bytes 1 ++ verifier.bytes
 
 -- the parts of an inode's bytes, in their order
-unfoldable pub head_bytes : Inode → List ℕ
-head_bytes inode =
+unfoldable pub header_bytes : Inode → List ℕ
+header_bytes inode =
     four_bytes (number_of_kind inode.kind) ++ four_bytes inode.mode ++ four_bytes inode.uid
     ++ four_bytes inode.gid ++ four_bytes inode.nlink ++ four_bytes 0
 
@@ -176,7 +176,7 @@ tail_bytes inode =
 
 -- the bytes that an inode gets
 abbrev pub inode_bytes : Inode → List ℕ
-inode_bytes inode = head_bytes inode ++ middle_bytes inode ++ tail_bytes inode
+inode_bytes inode = header_bytes inode ++ middle_bytes inode ++ tail_bytes inode
 
 abbrev pub FitsMoment : Moment → Type 0
 FitsMoment time = (time.seconds < 2 ^ 32) × (time.nanoseconds < 2 ^ 32)

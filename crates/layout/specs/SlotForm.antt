@@ -8,8 +8,8 @@ use Rattle.base.specs.declared.TheConstants.{BLOCK_BYTES, NAME_BYTES}
 use Rattle.objects.specs.Spliced.{spliced}
 use Rattle.layout.specs.declared.fault.LayoutFault.{LayoutFault}
 use Rattle.layout.specs.declared.fault.LayoutFault.TheVariants.{Range}
-use Rattle.layout.specs.declared.slot.Look.{Look}
-use Rattle.layout.specs.declared.slot.Look.TheVariants as look
+use Rattle.layout.specs.declared.slot.SlotProbe.{SlotProbe}
+use Rattle.layout.specs.declared.slot.SlotProbe.TheVariants as probe
 use Rattle.layout.specs.declared.slot.Slot.{Slot}
 use Rattle.layout.specs.declared.slot.TheConstants.{NUMBER_AT, COUNT_AT, NAME_AT, SLOT_BYTES}
 use Rattle.layout.specs.Fields.{four_at, four_bytes, is_zeros}
@@ -44,10 +44,10 @@ number_under name (Ok None) = Ok None
 number_under name (Err fault) = Err fault
 
 -- What a look at a slot shows, of which this is read: each of these holds of no slot of which another does.
-abbrev pub IsLook : List ℕ → Result (Option Slot) LayoutFault → Look → Type 0
-IsLook name read look.Refused = read ≡ Err Range
-IsLook name read (look.Named number) = number_under name read ≡ Ok (Some number)
-IsLook name read look.Other = number_under name read ≡ Ok None
+abbrev pub IsProbe : List ℕ → Result (Option Slot) LayoutFault → SlotProbe → Type 0
+IsProbe name read probe.Refused = read ≡ Err Range
+IsProbe name read (probe.Named number) = number_under name read ≡ Ok (Some number)
+IsProbe name read probe.Other = number_under name read ≡ Ok None
 
 -- the bytes that a slot in use gets: the number, the length of the name, the name, and zeros
 abbrev pub used_bytes : Slot → List ℕ

@@ -48,11 +48,11 @@ IsNoSuper bytes Version = HasMagic bytes × (HasVersion bytes → ⊥)
 IsNoSuper bytes Range = HasMagic bytes × HasVersion bytes × (HasSizes bytes → ⊥)
 
 -- what of its bytes isn't zero always
-unfoldable pub super_head : Super → List ℕ
-super_head super =
+unfoldable pub super_header : Super → List ℕ
+super_header super =
     MAGIC_BYTES ++ four_bytes (number_of_version super.geometry.version) ++ four_bytes super.geometry.blocks
     ++ four_bytes super.geometry.inodes ++ four_bytes 0 ++ eight_bytes super.boot
 
 -- the bytes that a super block gets
 abbrev pub super_bytes : Super → List ℕ
-super_bytes super = super_head super ++ replicate (BLOCK_BYTES - REST_AT) 0
+super_bytes super = super_header super ++ replicate (BLOCK_BYTES - REST_AT) 0

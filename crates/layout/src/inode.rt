@@ -4,7 +4,7 @@ ghost use Rattle.base.specs.declared.TheConstants.{INODE_BYTES};
 ghost use Rattle.layout.specs.InodeForm.{read_inode, IsInTable};
 
 use crate::fields::{four_at, is_zeros};
-use crate::inode_bytes::{put_head, put_middle, put_tail};
+use crate::inode_bytes::{put_header_fields, put_middle, put_tail};
 use crate::inode_fields::{KIND_AT, fields_of, kind_of_number, rest_is_zero};
 use crate::numbers::count_mapped;
 use crate::{Geometry, LayoutFault};
@@ -64,7 +64,7 @@ impl Inode {
         ensures len { IfOk result (λ bytes. length bytes.items ≡ INODE_BYTES) }
     {
         let mut bytes = Vec::with_capacity(alloc, INODE_BYTES)?;
-        put_head(&mut bytes, self)?;
+        put_header_fields(&mut bytes, self)?;
         put_middle(&mut bytes, self)?;
         put_tail(&mut bytes, self)?;
         Ok(bytes)

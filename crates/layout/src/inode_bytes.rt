@@ -1,7 +1,7 @@
 //! The bytes of an inode.
 ghost use Rattle.std.specs.Prelude.{◌≡◌, ◌+◌, ◌*◌, ◌++◌, length, OnOk};
 ghost use Rattle.layout.specs.Fields.{number_bytes};
-ghost use Rattle.layout.specs.InodeForm.{number_of_kind, time_bytes, verifier_bytes, head_bytes};
+ghost use Rattle.layout.specs.InodeForm.{number_of_kind, time_bytes, verifier_bytes, header_bytes};
 ghost use Rattle.layout.specs.InodeForm.{middle_bytes, tail_bytes};
 
 use crate::fields::{put_eight, put_four};
@@ -56,8 +56,8 @@ pub(crate) fn put_numbers(bytes: &mut Vec<u8>, numbers: &[u32]) -> Result<(), Al
 }
 
 /// Adds the kind, the mode, the owners and the count of links.
-pub(crate) fn put_head(bytes: &mut Vec<u8>, inode: &Inode) -> Result<(), AllocError>
-    ensures bytes { OnOk result (bytes.new.items ≡ bytes.old.items ++ head_bytes inode.now) }
+pub(crate) fn put_header_fields(bytes: &mut Vec<u8>, inode: &Inode) -> Result<(), AllocError>
+    ensures bytes { OnOk result (bytes.new.items ≡ bytes.old.items ++ header_bytes inode.now) }
     ensures len { OnOk result (length bytes.new.items ≡ length bytes.old.items + 24) }
 {
     put_four(bytes, number_of_kind(inode.kind))?;

@@ -33,7 +33,7 @@ pub use grid::{
 pub use inode::{Inode, InodeKind};
 pub use name_pattern::NamePattern;
 pub use numbers::{NUMBER_BYTES, Numbers};
-pub use slot::{Look, SLOT_BYTES, Slot};
+pub use slot::{SLOT_BYTES, Slot, SlotProbe};
 pub use spellings::{
     a_block_is_one_super_block, a_slot_is_its_bytes, a_super_block_has_one_spelling,
     a_written_inode_is_read, an_indirect_block_is_its_bytes, an_inode_is_its_bytes,

@@ -3,7 +3,7 @@ ghost use Rattle.std.specs.Prelude.{◌≡◌, ◌+◌, ◌*◌, ◌<◌, ◌≤
 ghost use Rattle.std.specs.Prelude.{IfOk, IfErr, IsOk, Ok, Err, Option, Some};
 ghost use Rattle.base.specs.declared.TheConstants.{BLOCK_BYTES, NAME_BYTES, SLOTS_PER_BLOCK};
 ghost use Rattle.layout.specs.Fields.{four_at, is_zeros};
-ghost use Rattle.layout.specs.SlotForm.{is_sound_slot, number_under, read_slot, used_bytes, IsInDirectory, IsLook};
+ghost use Rattle.layout.specs.SlotForm.{is_sound_slot, number_under, read_slot, used_bytes, IsInDirectory, IsProbe};
 
 use crate::fields::{are_zeros_at, eight_at, four_at, is_zeros, put_four};
 use crate::{LayoutFault, NamePattern};
@@ -29,7 +29,7 @@ const NAMED_WORDS: usize = (SLOT_BYTES - COUNT_AT) / 8;
 /// What one look at a slot shows of a name: that the slot is refused, or the number that it has under the name, or
 /// neither.
 #[derive(Clone, Copy)]
-pub enum Look {
+pub enum SlotProbe {
     Refused,
     Named(u32),
     Other,
@@ -108,28 +108,28 @@ impl Slot {
 
     /// Looks at a slot once for a name: whether it is refused, as reading it is, and the number that it has under the
     /// name. Most slots have another name, which a few bytes of it tell.
-    pub fn look(inodes: u32, bytes: &[u8], name: &NamePattern) -> Look
+    pub fn probe(inodes: u32, bytes: &[u8], name: &NamePattern) -> SlotProbe
         requires { length bytes.now ≡ SLOT_BYTES }
-        ensures { IsLook name.now (read_slot inodes bytes.now) result }
+        ensures { IsProbe name.now (read_slot inodes bytes.now) result }
     {
         let number = four_at(bytes, NUMBER_AT);
         if number == 0 {
             return if is_zeros(bytes) {
-                Look::Other
+                SlotProbe::Other
             } else {
-                Look::Refused
+                SlotProbe::Refused
             };
         }
         if !is_sound_slot(inodes, bytes) {
-            return Look::Refused;
+            return SlotProbe::Refused;
         }
         if !may_have(bytes, name) {
-            return Look::Other;
+            return SlotProbe::Other;
         }
         if name.name().cmp(name_in(bytes)).is_eq() {
-            Look::Named(number)
+            SlotProbe::Named(number)
         } else {
-            Look::Other
+            SlotProbe::Other
         }
     }
 }
@@ -211,11 +211,11 @@ fn is_sound_slot(inodes: u32, bytes: &[u8]) -> bool
     if four_at(bytes, NUMBER_AT) >= inodes || count < 1 || count > NAME_BYTES {
         return false;
     }
-    is_clear_behind(bytes, count)
+    is_zeros_behind(bytes, count)
 }
 
 // Whether nothing but zeros is behind a name of so many bytes.
-fn is_clear_behind(bytes: &[u8], count: usize) -> bool
+fn is_zeros_behind(bytes: &[u8], count: usize) -> bool
     requires len { length bytes.now ≡ SLOT_BYTES }
     requires count { count ≤ NAME_BYTES }
     ensures { result ≡ is_zeros (drop (NAME_AT + count) bytes.now) }
@@ -224,12 +224,12 @@ fn is_clear_behind(bytes: &[u8], count: usize) -> bool
         let (_, rest) = bytes.split_at(NAME_AT + count);
         return is_zeros(rest);
     }
-    has_clear_parts(bytes, count)
+    has_zero_parts(bytes, count)
 }
 
 // Whether four parts of a slot are zeros, which are all that is behind a short name: one from its end on, and three
 // that are the same for each.
-fn has_clear_parts(bytes: &[u8], count: usize) -> bool
+fn has_zero_parts(bytes: &[u8], count: usize) -> bool
     requires len { length bytes.now ≡ SLOT_BYTES }
     requires count { count ≤ 24 }
     ensures { result ≡ (is_zeros (take 32 (drop (NAME_AT + count) bytes.now)) && is_zeros (take 32 (drop 32 bytes.now))

@@ -2,7 +2,7 @@
 ghost use Rattle.std.specs.Prelude.{◌≡◌, ◌+◌, ◌++◌, ◌≤◌, ◌↔◌, length, IfOk, IfErr, IfSome, IfNone, OnOk};
 ghost use Rattle.std.specs.Prelude.{IsTrue};
 ghost use Rattle.base.specs.declared.TheConstants.{BLOCK_BYTES};
-ghost use Rattle.layout.specs.SuperForm.{HasMagic, HasSizes, is_unused_zero, super_head};
+ghost use Rattle.layout.specs.SuperForm.{HasMagic, HasSizes, is_unused_zero, super_header};
 ghost use Rattle.layout.specs.Fields.{four_at};
 ghost use Rattle.layout.specs.declared.super_block.TheConstants.{VERSION_AT, BLOCKS_AT, INODES_AT, REST_AT};
 
@@ -65,7 +65,7 @@ impl Super {
         ensures len { IfOk result (λ bytes. length bytes.items ≡ BLOCK_BYTES) }
     {
         let mut bytes = Vec::with_capacity(alloc, BLOCK_BYTES)?;
-        put_head(&mut bytes, self)?;
+        put_header_fields(&mut bytes, self)?;
         bytes.resize(BLOCK_BYTES, 0)?;
         Ok(bytes)
     }
@@ -110,8 +110,8 @@ fn has_magic(bytes: &[u8]) -> bool
 }
 
 // Adds what of the bytes isn't zero always.
-fn put_head(bytes: &mut Vec<u8>, super_block: &Super) -> Result<(), AllocError>
-    ensures bytes { OnOk result (bytes.new.items ≡ bytes.old.items ++ super_head super_block.now) }
+fn put_header_fields(bytes: &mut Vec<u8>, super_block: &Super) -> Result<(), AllocError>
+    ensures bytes { OnOk result (bytes.new.items ≡ bytes.old.items ++ super_header super_block.now) }
     ensures len { OnOk result (length bytes.new.items ≡ length bytes.old.items + REST_AT) }
 {
     bytes.extend_from_slice(&MAGIC)?;

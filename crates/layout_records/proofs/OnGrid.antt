@@ -57,10 +57,10 @@ module _ (g : Geometry) (addr : Addr) where
       found (table_at g.blocks g.inodes) (addr.block.0 - table_at g.blocks g.inodes) (addr.offset / INODE_BYTES)
       (omega (arith, from)) (omega (arith, part)) (omega (arith, within, len)) (omega (arith, from, to, rules)) len refl
     where
-      found : (table row place : ℕ) → addr.block.0 ≡ table + row → addr.offset ≡ INODE_BYTES * place
-          → place < INODES_PER_BLOCK → row * INODES_PER_BLOCK + place < g.inodes → addr.len ≡ INODE_BYTES
+      found : (table row index_within : ℕ) → addr.block.0 ≡ table + row → addr.offset ≡ INODE_BYTES * index_within
+          → index_within < INODES_PER_BLOCK → row * INODES_PER_BLOCK + index_within < g.inodes → addr.len ≡ INODE_BYTES
           → table ≡ table_at g.blocks g.inodes → IsObject g addr
-      found table row place block offset few less len is = inode (row * INODES_PER_BLOCK + place) less
+      found table row index_within block offset few less len is = inode (row * INODES_PER_BLOCK + index_within) less
           (block ∙ (omega (arith, few, is))) (offset ∙ (omega (arith, few))) len
 
   pub is_object : is_on_grid g addr ≡ true → IsObject g addr

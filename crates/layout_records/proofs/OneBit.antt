@@ -34,20 +34,20 @@ elsewhere (x ∷ xs) (suc i) (suc k) v other = elsewhere xs i k v (λ same. othe
 
 -- a byte in which one bit has another value
 abbrev pub IsPut : ℕ → ℕ → ℕ → Bool → Type 0
-IsPut old new place is = (nat_eq (bit_at new place) 1 ≡ is)
-    × ((other : ℕ) → other < 8 → (other ≡ place → ⊥) → bit_at new other ≡ bit_at old other)
+IsPut old new index_within is = (nat_eq (bit_at new index_within) 1 ≡ is)
+    × ((other : ℕ) → other < 8 → (other ≡ index_within → ⊥) → bit_at new other ≡ bit_at old other)
 
-pub byte_set : (old place : ℕ) → place < 8 → IsPut old (bit_or old (1 * 2 ^ place % 256)) place true
-byte_set old place less = (
-  ap (λ v. nat_eq v 1) (bit_at_set_same w8 old place less),
-  λ other low not. bit_at_set_other w8 old place less other not,
+pub byte_set : (old index_within : ℕ) → index_within < 8 → IsPut old (bit_or old (1 * 2 ^ index_within % 256)) index_within true
+byte_set old index_within less = (
+  ap (λ v. nat_eq v 1) (bit_at_set_same w8 old index_within less),
+  λ other low not. bit_at_set_other w8 old index_within less other not,
 )
 
-pub byte_cleared : (old place : ℕ) → place < 8
-    → IsPut old (bit_and old (bit_not w8 (1 * 2 ^ place % 256))) place false
-byte_cleared old place less = (
-  ap (λ v. nat_eq v 1) (bit_at_clear_same w8 old place less),
-  λ other low not. bit_at_clear_other w8 old place less other low not,
+pub byte_cleared : (old index_within : ℕ) → index_within < 8
+    → IsPut old (bit_and old (bit_not w8 (1 * 2 ^ index_within % 256))) index_within false
+byte_cleared old index_within less = (
+  ap (λ v. nat_eq v 1) (bit_at_clear_same w8 old index_within less),
+  λ other low not. bit_at_clear_other w8 old index_within less other low not,
 )
 
 pub bit_put : (xs : List ℕ) (bit new : ℕ) (is : Bool) (other : ℕ) → bit < 8 * length xs

@@ -34,25 +34,25 @@ none_yet last = record {
 pub is_last : (list last before : List ℕ) (block name : ℕ) → IsIndex list last before
     → name ≡ slice_index last block → 0 < name → name ≤ length list → slice_index list (name - 1) ≡ block
     → IsLast list block name
-is_last list last before block name index noted some within there = record {
+is_last list last before block name index tracked some within there = record {
   within = within;
   there = λ _. there;
   last = λ k from lt e. (
       let same = index.of_block k lt in
       let later : k < slice_index last block = subst (λ (b : ℕ). k < slice_index last b) e same.later in
-      absurd (omega (arith, later, noted, from)));
+      absurd (omega (arith, later, tracked, from)));
 }
 
 -- and where none does
 pub is_none : (list last before : List ℕ) (block name : ℕ) → IsIndex list last before
     → name ≡ slice_index last block
     → (0 < name → name ≤ length list → slice_index list (name - 1) ≡ block → ⊥) → IsLast list block 0
-is_none list last before block name index noted never = record {
+is_none list last before block name index tracked never = record {
   within = omega arith;
   there = λ some. absurd (omega (arith, some));
   last = λ k from lt e. (
       let same = index.of_block k lt in
-      let at : slice_index last (slice_index list k) ≡ name = ap (λ (b : ℕ). slice_index last b) e ∙ sym noted in
+      let at : slice_index last (slice_index list k) ≡ name = ap (λ (b : ℕ). slice_index last b) e ∙ sym tracked in
       let later = same.later in
       let within = same.within in
       never (omega (arith, later, at)) (omega (arith, within, at))

@@ -5,7 +5,7 @@ use Rattle.std.specs.List.{remove}
 use Rattle.std.proofs.lemmas.Bool.{true≢false}
 use Rattle.objects.specs.declared.addr.Addr.{Addr}
 use Rattle.txn_law.specs.Holds.{hold_of, is_hold_of, without_hold}
-use Rattle.txn_law.specs.Tidy.{AreApart, AreBeside}
+use Rattle.txn_law.specs.WellFormed.{AreApart, AreCompatible}
 use Rattle.txn_law.specs.declared.hold.Hold.{Hold}
 use Rattle.locks.specs.Looks.{IsNameOf}
 use Rattle.locks.proofs.NoneLeft.{none_left}
@@ -18,10 +18,10 @@ one_gone [] tx addr k d apart lt it = absurd (omega (arith, lt))
 one_gone (x ∷ xs) tx addr k d apart lt it =
     go (λ j. one_gone xs tx addr j d apart.1) (is_hold_of tx addr x) refl k lt it
   where
-    other : is_hold_of tx addr x ≡ true → (y : Hold) → AreBeside x y → (t : Bool) → is_hold_of tx addr y ≡ t
+    other : is_hold_of tx addr x ≡ true → (y : Hold) → AreCompatible x y → (t : Bool) → is_hold_of tx addr y ≡ t
         → is_hold_of tx addr y ≡ false
-    other is y beside true e = absurd (twice tx addr x y beside is e)
-    other is y beside false e = e
+    other is y compatible true e = absurd (twice tx addr x y compatible is e)
+    other is y compatible false e = e
 
     none : is_hold_of tx addr x ≡ true → hold_of xs tx addr ≡ None
     none is = find_none (is_hold_of tx addr) xs

@@ -7,7 +7,7 @@ use Rattle.objects.specs.Addr.{Overlap}
 use Rattle.objects.specs.declared.addr.Addr.{Addr}
 use Rattle.objects.specs.declared.mode.Mode.{Mode}
 use Rattle.txn_law.specs.Holds.{IsFree, hold_of, is_hold_of}
-use Rattle.txn_law.specs.Tidy.{AreApart, AreBeside}
+use Rattle.txn_law.specs.WellFormed.{AreApart, AreCompatible}
 use Rattle.txn_law.specs.declared.hold.Hold.{Hold}
 use Rattle.txn_law.proofs.Again.{same_addr}
 use Rattle.locks.specs.Index.{IsIndex, IsLast, numbers}
@@ -109,16 +109,16 @@ none_held holds tx addr is =
     ]))
 
 -- it has one hold of an address
-pub twice : (tx : ℕ) (addr : Addr) (x y : Hold) → AreBeside x y → is_hold_of tx addr x ≡ true
+pub twice : (tx : ℕ) (addr : Addr) (x y : Hold) → AreCompatible x y → is_hold_of tx addr x ≡ true
     → is_hold_of tx addr y ≡ true → ⊥
-twice tx addr x y beside one two =
+twice tx addr x y compatible one two =
     let a = four tx addr x one in
     let b = four tx addr y two in
     let same : x.addr ≡ y.addr = same_addr x.addr y.addr
     (eqb-true x.addr.block.0 addr.block.0 a.1 ∙ sym (eqb-true y.addr.block.0 addr.block.0 b.1))
     (eqb-true x.addr.offset addr.offset a.2 ∙ sym (eqb-true y.addr.offset addr.offset b.2))
     (eqb-true x.addr.len addr.len a.3 ∙ sym (eqb-true y.addr.len addr.len b.3)) in
-    beside (subst (λ (at : Addr). Overlap x.addr at) same (overlaps_itself x.addr))
+    compatible (subst (λ (at : Addr). Overlap x.addr at) same (overlaps_itself x.addr))
     (inl (eqb-true x.transaction tx a.0 ∙ sym (eqb-true y.transaction tx b.0)))
 
 -- a hold of the address is the transaction's one

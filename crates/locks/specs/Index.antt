@@ -1,7 +1,7 @@
 -- The index over a list of holds: of each block the name of its last hold, and of each hold that of the one before it of
 -- the same block. A hold is named by its index and one: 0 names none.
 use Rattle.std.specs.Prelude.{◌≡◌, ◌≢◌, ℕ, ◌-◌, ◌<◌, ◌≤◌, List, length, map, slice_index}
-use Rattle.txn_law.specs.Tidy.{AreApart}
+use Rattle.txn_law.specs.WellFormed.{AreApart}
 use Rattle.txn_law.specs.declared.hold.Hold.{Hold}
 use Rattle.locks.specs.declared.table.Table.TheInside.{Inside}
 

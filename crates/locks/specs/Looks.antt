@@ -1,14 +1,14 @@
--- What one hold says of a wish, and which one the wish's transaction has.
+-- What one hold says of a lock request, and which one the request's transaction has.
 use Rattle.std.specs.Prelude.{◌≡◌, ℕ, ◌-◌, ◌<◌, ◌≤◌, List, None, get_or, length, true}
 use Rattle.objects.specs.Addr.{Overlap}
 use Rattle.objects.specs.declared.addr.Addr.{Addr}
 use Rattle.objects.specs.declared.mode.Mode.{Mode}
-use Rattle.txn_law.specs.Holds.{IsHoldOf, KeepsOff, hold_of, is_hold_of}
+use Rattle.txn_law.specs.Holds.{IsHoldOf, ConflictsWith, hold_of, is_hold_of}
 use Rattle.txn_law.specs.declared.hold.Hold.{Hold}
 
--- it has no byte of the address, doesn't keep the wish off, or is what this transaction has taken by this address
+-- it has no byte of the address, doesn't keep the request off, or is what this transaction has taken by this address
 abbrev pub LetsPass : ℕ → Addr → Mode → Hold → Type 0
-LetsPass tx addr mode hold = Overlap hold.addr addr → KeepsOff tx mode hold → IsHoldOf tx addr hold
+LetsPass tx addr mode hold = Overlap hold.addr addr → ConflictsWith tx mode hold → IsHoldOf tx addr hold
 
 -- The name is that of the transaction's hold of the address, or 0 where it has none.
 pub record IsNameOf (holds : List Hold) (tx : ℕ) (addr : Addr) (name : ℕ) : Type 0 where

@@ -1,11 +1,11 @@
--- What comes of a wish, and what it leaves.
+-- What comes of a lock request, and what it leaves.
 use Rattle.std.specs.Prelude.{◌≡◌, List}
 use Rattle.txn_law.specs.Holds.{IsFree, with_hold}
 use Rattle.txn_law.specs.declared.hold.Hold.{Hold}
 use Rattle.locks.specs.declared.table.Take.{Take}
 use Rattle.locks.specs.declared.table.Take.TheVariants as take
 
--- nothing keeps off what the wish is for
+-- nothing keeps off what the request is for
 abbrev pub IsFreeFor : List Hold → Hold → Type 0
 IsFreeFor holds hold = IsFree holds hold.transaction hold.addr hold.mode
 

@@ -35,12 +35,12 @@ impl Index {
         requires { IsIndex (numbers holds.now) self.now.last.items self.now.before.items }
         ensures { IsLast (numbers holds.now) block.0 result }
     {
-        let name = self.noted(block);
+        let name = self.tracked(block);
         if is_of(holds, name, block) { name } else { 0 }
     }
 
     // What stands at the block.
-    fn noted(&self, block: BlockNo) -> usize
+    fn tracked(&self, block: BlockNo) -> usize
         ensures { result ≡ slice_index self.now.last.items block.0 }
     {
         let at = block.0 as usize;
@@ -52,21 +52,21 @@ impl Index {
     }
 
     /// Makes room for one hold more, of this block.
-    pub(crate) fn make_room(&mut self, block: BlockNo) -> Result<(), AllocError>
+    pub(crate) fn reserve_next(&mut self, block: BlockNo) -> Result<(), AllocError>
         ensures same { (number : ℕ) → slice_index self.new.last.items number ≡ slice_index self.old.last.items number }
         ensures more { length self.old.last.items ≤ length self.new.last.items }
         ensures before { self.new.before.items ≡ self.old.before.items }
         ensures homed { OnOk result (block.0 < length self.new.last.items) }
-        ensures room { OnOk result (length self.new.before.items < vec_capacity self.new.before) }
+        ensures has_space { OnOk result (length self.new.before.items < vec_capacity self.new.before) }
     {
         self.before.reserve(1)?;
         reach(&mut self.last, block.0 as usize)
     }
 
     /// Notes a further hold, of this block, behind these.
-    pub(crate) fn note(&mut self, holds: &[Hold], block: BlockNo)
+    pub(crate) fn track(&mut self, holds: &[Hold], block: BlockNo)
         requires homed { block.0 < length self.old.last.items }
-        requires room { length self.old.before.items < vec_capacity self.old.before }
+        requires has_space { length self.old.before.items < vec_capacity self.old.before }
         requires index { IsIndex (numbers holds.now) self.old.last.items self.old.before.items }
         ensures more { length self.new.last.items ≡ length self.old.last.items }
         ensures capacity { vec_capacity self.old.before ≤ vec_capacity self.new.before }
@@ -78,29 +78,29 @@ impl Index {
     }
 
     /// Notes all of these holds anew.
-    pub(crate) fn note_all(&mut self, holds: &[Hold])
+    pub(crate) fn track_all(&mut self, holds: &[Hold])
         requires homed { AreHomed (length self.old.last.items) (numbers holds.now) }
-        requires room { length holds.now ≤ vec_capacity self.old.before }
+        requires has_space { length holds.now ≤ vec_capacity self.old.before }
         ensures more { length self.new.last.items ≡ length self.old.last.items }
         ensures capacity { vec_capacity self.old.before ≤ vec_capacity self.new.before }
         ensures index { IsIndex (numbers holds.now) self.new.last.items self.new.before.items }
     {
         self.before.clear();
-        self.note_from(holds, 0);
+        self.track_from(holds, 0);
     }
 
     /// Notes the holds from this one on, where those before it are noted.
-    pub(crate) fn note_from(&mut self, holds: &[Hold], from: usize)
+    pub(crate) fn track_from(&mut self, holds: &[Hold], from: usize)
         requires within { from ≤ length holds.now }
         requires homed { AreHomed (length self.old.last.items) (numbers holds.now) }
-        requires room { length holds.now ≤ vec_capacity self.old.before }
+        requires has_space { length holds.now ≤ vec_capacity self.old.before }
         requires index { IsIndex (numbers (take from holds.now)) self.old.last.items self.old.before.items }
         ensures more { length self.new.last.items ≡ length self.old.last.items }
         ensures capacity { vec_capacity self.old.before ≤ vec_capacity self.new.before }
         ensures index { IsIndex (numbers holds.now) self.new.last.items self.new.before.items }
     {
         for i in from..holds.len() {
-            self.note(&holds[..i], holds[i].addr.block);
+            self.track(&holds[..i], holds[i].addr.block);
         }
     }
 

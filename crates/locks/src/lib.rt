@@ -2,12 +2,12 @@
 //! share it.
 #![tactic(auto)]
 
+mod acquire;
 mod index;
 mod looks;
+mod requested_holds;
 mod table;
-mod taking;
-mod wishes;
 
+pub use requested_holds::{for_fetching, for_reading, for_writing};
 pub use table::{Table, Take};
 pub use txn_law::Hold;
-pub use wishes::{for_fetching, for_reading, for_writing};

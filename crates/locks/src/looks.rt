@@ -2,14 +2,14 @@
 ghost use Rattle.std.specs.Prelude.{◌≡◌, ◌↔◌, IsTrue, is_some};
 ghost use Rattle.locks.specs.Index.{IsIndex, numbers};
 ghost use Rattle.locks.specs.Looks.{IsNameOf, LetsPass};
-ghost use Rattle.txn_law.specs.Holds.{IsFree, IsHoldOf, KeepsOff, hold_of, is_hold_of, is_read, is_written};
-ghost use Rattle.txn_law.specs.Tidy.{AreApart};
+ghost use Rattle.txn_law.specs.Holds.{IsFree, IsHoldOf, ConflictsWith, hold_of, is_hold_of, is_read, is_written};
+ghost use Rattle.txn_law.specs.WellFormed.{AreApart};
 
 use crate::index::Index;
 use objects::{Addr, Mode};
 use txn_law::Hold;
 
-/// Whether of what keeps the wish off nothing has a byte of the address, but what this transaction has taken by
+/// Whether of what keeps the request off nothing has a byte of the address, but what this transaction has taken by
 /// this address.
 pub(crate) fn is_free(
     holds: &[Hold],
@@ -32,18 +32,18 @@ pub(crate) fn is_free(
     true
 }
 
-// Whether a hold leaves the address free for such a wish.
+// Whether a hold leaves the address free for such a lock request.
 fn lets_pass(hold: &Hold, transaction: u64, addr: Addr, mode: Mode) -> bool
     ensures { IsTrue result ↔ LetsPass transaction addr mode hold.now }
 {
     !hold.addr.overlaps(addr)
-        || !keeps_off(hold, transaction, mode)
+        || !conflicts_with(hold, transaction, mode)
         || hold.transaction == transaction && hold.addr == addr
 }
 
-// Whether what is taken keeps off such a wish.
-fn keeps_off(hold: &Hold, transaction: u64, mode: Mode) -> bool
-    ensures { IsTrue result ↔ KeepsOff transaction mode hold.now }
+// Whether what is taken keeps off such a lock request.
+fn conflicts_with(hold: &Hold, transaction: u64, mode: Mode) -> bool
+    ensures { IsTrue result ↔ ConflictsWith transaction mode hold.now }
 {
     hold.transaction == transaction || hold.mode.excludes(mode)
 }

@@ -2,19 +2,19 @@
 ghost use Rattle.std.specs.Prelude.{◌≡◌, ◌↔◌, IsTrue, Contains, [], is_some, OnOk, OnErr};
 ghost use Rattle.objects.specs.declared.mode.Mode.TheVariants as modes;
 ghost use Rattle.txn_law.specs.Holds.{IsFree, with_hold, hold_of, is_read, is_written, released};
-ghost use Rattle.txn_law.specs.Tidy.{AreApart};
+ghost use Rattle.txn_law.specs.WellFormed.{AreApart};
 ghost use Rattle.txn_law.specs.declared.hold.Hold.{Hold};
 ghost use Rattle.locks.specs.Taking.{IsTaking};
 
+use crate::acquire::{release, track};
 use crate::index::Index;
 use crate::looks::{is_free, is_held_by, is_read_by, is_written_by};
-use crate::taking::{note, release};
 use objects::{Addr, Mode};
 use std::alloc::{AllocError, Global};
 use std::marker::Model;
 use txn_law::Hold;
 
-/// What came of a wish. Busy: what keeps it off has a byte of its address. NoMemory: it is free, but there was no
+/// What came of a lock request. Busy: what keeps it off has a byte of its address. NoMemory: it is free, but there was no
 /// room to note it.
 #[derive(Clone, Copy, Debug, PartialEq, Eq)]
 pub enum Take {
@@ -72,7 +72,7 @@ impl Table {
         &self.holds
     }
 
-    /// Takes what a wish is for, beside what its transaction has taken of the address. Busy is tested before
+    /// Takes what a lock request is for, beside what its transaction has taken of the address. Busy is tested before
     /// NoMemory, and both change nothing.
     pub fn take(&mut self, hold: Hold) -> Take
         ensures { IsTaking self.old hold result self.new }
@@ -86,7 +86,7 @@ impl Table {
         }
     }
 
-    /// Takes what a wish is for that nothing keeps off, beside what its transaction has taken of the address. Where there
+    /// Takes what a lock request is for that nothing keeps off, beside what its transaction has taken of the address. Where there
     /// is no room nothing changes.
     pub fn take_free(&mut self, hold: Hold) -> Result<(), AllocError>
         requires { IsFree self.old hold.transaction hold.addr hold.mode }
@@ -94,8 +94,8 @@ impl Table {
         ensures refused { OnErr result (self.new ≡ self.old) }
     {
         self.holds.reserve(1)?;
-        self.index.make_room(hold.addr.block)?;
-        note(&mut self.holds, &mut self.index, hold);
+        self.index.reserve_next(hold.addr.block)?;
+        track(&mut self.holds, &mut self.index, hold);
         Ok(())
     }
 
@@ -106,7 +106,7 @@ impl Table {
         release(&mut self.holds, &mut self.index, transaction);
     }
 
-    /// Whether of what keeps the wish off nothing has a byte of the address, but what this transaction has taken
+    /// Whether of what keeps the request off nothing has a byte of the address, but what this transaction has taken
     /// by this address.
     pub fn is_free(&self, transaction: u64, addr: Addr, mode: Mode) -> bool
         ensures { IsTrue result ↔ IsFree self.now transaction addr mode }

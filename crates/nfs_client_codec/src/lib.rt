@@ -4,11 +4,13 @@
 #![tactic(auto)]
 
 mod arguments;
+mod by_status;
+mod decode;
 mod entries;
+mod file_attributes;
 mod outcomes;
 mod put;
 mod results;
-mod told;
 
 pub use arguments::encode_call;
 pub use results::{decode_reply, read_result};

@@ -1,165 +1,157 @@
 //! Reading what results tell after OK (RFC 1813, sections 3.3 and 5.2).
 ghost use Rattle.std.specs.Prelude.{◌≡◌};
 ghost use Rattle.xdr.specs.Codes.{word, items_at};
-ghost use Rattle.xdr.specs.Reading.{Reads, Gives};
+ghost use Rattle.xdr.specs.Reading.{Gives};
 ghost use Rattle.nfs_results.specs.Results as codes;
 
-use crate::told::{
-    read_handle, read_moment, read_optional_attributes, read_optional_handle, read_stability,
-    read_verifier,
-};
+use crate::decode::Decode;
 use base::RECORD_BYTES;
 use nfs_types::{
-    Created, FileSystemInfo, FileSystemSpace, Looked, Mounted, NumberList, PathLimits, Pieces,
-    ReadBytes, Written,
+    Created, FileSystemInfo, FileSystemSpace, Handle, LookupResult, Moment, Mounted, NumberList,
+    PathLimits, Pieces, ReadBytes, Stability, Verifier, Written,
 };
 use std::alloc::Global;
 use xdr::{Reader, XdrFault};
 
-/// What LOOKUP found.
-#[tactic(auto, unfolding(nfs_results::specs::Results::looked))]
-pub fn read_looked(alloc: Global, reader: &mut Reader) -> Result<Looked, XdrFault>
-    ensures { Gives (λ x. (x, reader.new)) result (codes.looked.read reader.old) }
-{
-    let object = read_handle(alloc, reader)?;
-    let attributes = read_optional_attributes(reader)?;
-    Ok(Looked { object, attributes })
+// What LOOKUP found.
+impl Decode for LookupResult {
+    ghost code = { codes.lookup_result };
+
+    #[tactic(auto, unfolding(nfs_results::specs::Results::lookup_result, nfs_codec::specs::Items::optional_attributes))]
+    fn decode(alloc: Global, reader: &mut Reader) -> Result<LookupResult, XdrFault> {
+        Ok(LookupResult {
+            object: Handle::decode(alloc, reader)?,
+            attributes: Option::decode(alloc, reader)?,
+        })
+    }
 }
 
-/// What READ gives.
-#[tactic(auto, unfolding(nfs_results::specs::Results::read_bytes, nfs_codec::specs::Items::text))]
-pub fn read_read_bytes(alloc: Global, reader: &mut Reader) -> Result<ReadBytes, XdrFault>
-    ensures { Gives (λ x. (x, reader.new)) result (codes.read_bytes.read reader.old) }
-{
-    let count = reader.unsigned()?;
-    let eof = reader.flag()?;
-    let bytes = reader.opaque(RECORD_BYTES)?;
-    Ok(ReadBytes {
-        count,
-        eof,
-        bytes: Pieces::copied(alloc, bytes)?,
-    })
+// What READ gives.
+impl Decode for ReadBytes {
+    ghost code = { codes.read_bytes };
+
+    #[tactic(auto, unfolding(nfs_results::specs::Results::read_bytes, nfs_codec::specs::Items::text))]
+    fn decode(alloc: Global, reader: &mut Reader) -> Result<ReadBytes, XdrFault> {
+        let count = reader.unsigned()?;
+        let eof = reader.flag()?;
+        let bytes = reader.opaque(RECORD_BYTES)?;
+        Ok(ReadBytes {
+            count,
+            eof,
+            bytes: Pieces::copied(alloc, bytes)?,
+        })
+    }
 }
 
-/// What WRITE did.
-#[tactic(auto, unfolding(nfs_results::specs::Results::written))]
-pub fn read_written(reader: &mut Reader) -> Result<Written, XdrFault>
-    ensures { Reads (λ x. (x, reader.new)) result (codes.written.read reader.old) }
-{
-    let count = reader.unsigned()?;
-    let committed = read_stability(reader)?;
-    let verifier = read_verifier(reader)?;
-    Ok(Written {
-        count,
-        committed,
-        verifier,
-    })
+// What WRITE did.
+impl Decode for Written {
+    ghost code = { codes.written };
+
+    #[tactic(auto, unfolding(nfs_results::specs::Results::written))]
+    fn decode(alloc: Global, reader: &mut Reader) -> Result<Written, XdrFault> {
+        Ok(Written {
+            count: reader.unsigned()?,
+            committed: Stability::decode(alloc, reader)?,
+            verifier: Verifier::decode(alloc, reader)?,
+        })
+    }
 }
 
-/// What CREATE, MKDIR, SYMLINK or MKNOD made.
-#[tactic(auto, unfolding(nfs_results::specs::Results::created))]
-pub fn read_created(alloc: Global, reader: &mut Reader) -> Result<Created, XdrFault>
-    ensures { Gives (λ x. (x, reader.new)) result (codes.created.read reader.old) }
-{
-    let object = read_optional_handle(alloc, reader)?;
-    let attributes = read_optional_attributes(reader)?;
-    Ok(Created { object, attributes })
+// What CREATE, MKDIR, SYMLINK or MKNOD made.
+impl Decode for Created {
+    ghost code = { codes.created };
+
+    #[tactic(auto, unfolding(nfs_results::specs::Results::created, nfs_codec::specs::Items::optional_handle, nfs_codec::specs::Items::optional_attributes))]
+    fn decode(alloc: Global, reader: &mut Reader) -> Result<Created, XdrFault> {
+        Ok(Created {
+            object: Option::decode(alloc, reader)?,
+            attributes: Option::decode(alloc, reader)?,
+        })
+    }
 }
 
-/// What FSSTAT tells.
-#[tactic(auto, unfolding(nfs_results::specs::Results::space))]
-pub fn read_space(reader: &mut Reader) -> Result<FileSystemSpace, XdrFault>
-    ensures { Reads (λ x. (x, reader.new)) result (codes.space.read reader.old) }
-{
-    let total_bytes = reader.hyper()?;
-    let free_bytes = reader.hyper()?;
-    let available_bytes = reader.hyper()?;
-    let total_files = reader.hyper()?;
-    let free_files = reader.hyper()?;
-    let available_files = reader.hyper()?;
-    let unchanged_seconds = reader.unsigned()?;
-    Ok(FileSystemSpace {
-        total_bytes,
-        free_bytes,
-        available_bytes,
-        total_files,
-        free_files,
-        available_files,
-        unchanged_seconds,
-    })
+// What FSSTAT tells.
+impl Decode for FileSystemSpace {
+    ghost code = { codes.space };
+
+    #[tactic(auto, unfolding(nfs_results::specs::Results::space))]
+    fn decode(_alloc: Global, reader: &mut Reader) -> Result<FileSystemSpace, XdrFault> {
+        Ok(FileSystemSpace {
+            total_bytes: reader.hyper()?,
+            free_bytes: reader.hyper()?,
+            available_bytes: reader.hyper()?,
+            total_files: reader.hyper()?,
+            free_files: reader.hyper()?,
+            available_files: reader.hyper()?,
+            unchanged_seconds: reader.unsigned()?,
+        })
+    }
 }
 
-/// What FSINFO tells.
-#[tactic(auto, unfolding(nfs_results::specs::Results::info))]
-pub fn read_info(reader: &mut Reader) -> Result<FileSystemInfo, XdrFault>
-    ensures { Reads (λ x. (x, reader.new)) result (codes.info.read reader.old) }
-{
-    let read_max = reader.unsigned()?;
-    let read_preferred = reader.unsigned()?;
-    let read_multiple = reader.unsigned()?;
-    let write_max = reader.unsigned()?;
-    let write_preferred = reader.unsigned()?;
-    let write_multiple = reader.unsigned()?;
-    let directory_preferred = reader.unsigned()?;
-    let largest_file = reader.hyper()?;
-    let time_delta = read_moment(reader)?;
-    let properties = reader.unsigned()?;
-    Ok(FileSystemInfo {
-        read_max,
-        read_preferred,
-        read_multiple,
-        write_max,
-        write_preferred,
-        write_multiple,
-        directory_preferred,
-        largest_file,
-        time_delta,
-        properties,
-    })
+// What FSINFO tells.
+impl Decode for FileSystemInfo {
+    ghost code = { codes.info };
+
+    #[tactic(auto, unfolding(nfs_results::specs::Results::info))]
+    fn decode(alloc: Global, reader: &mut Reader) -> Result<FileSystemInfo, XdrFault> {
+        Ok(FileSystemInfo {
+            read_max: reader.unsigned()?,
+            read_preferred: reader.unsigned()?,
+            read_multiple: reader.unsigned()?,
+            write_max: reader.unsigned()?,
+            write_preferred: reader.unsigned()?,
+            write_multiple: reader.unsigned()?,
+            directory_preferred: reader.unsigned()?,
+            largest_file: reader.hyper()?,
+            time_delta: Moment::decode(alloc, reader)?,
+            properties: reader.unsigned()?,
+        })
+    }
 }
 
-/// What PATHCONF tells.
-#[tactic(auto, unfolding(nfs_results::specs::Results::limits))]
-pub fn read_limits(reader: &mut Reader) -> Result<PathLimits, XdrFault>
-    ensures { Reads (λ x. (x, reader.new)) result (codes.limits.read reader.old) }
-{
-    let links = reader.unsigned()?;
-    let name_bytes = reader.unsigned()?;
-    let no_truncation = reader.flag()?;
-    let chown_restricted = reader.flag()?;
-    let case_insensitive = reader.flag()?;
-    let case_preserving = reader.flag()?;
-    Ok(PathLimits {
-        links,
-        name_bytes,
-        no_truncation,
-        chown_restricted,
-        case_insensitive,
-        case_preserving,
-    })
+// What PATHCONF tells.
+impl Decode for PathLimits {
+    ghost code = { codes.limits };
+
+    #[tactic(auto, unfolding(nfs_results::specs::Results::limits))]
+    fn decode(_alloc: Global, reader: &mut Reader) -> Result<PathLimits, XdrFault> {
+        Ok(PathLimits {
+            links: reader.unsigned()?,
+            name_bytes: reader.unsigned()?,
+            no_truncation: reader.flag()?,
+            chown_restricted: reader.flag()?,
+            case_insensitive: reader.flag()?,
+            case_preserving: reader.flag()?,
+        })
+    }
 }
 
-/// What MNT gives.
-#[tactic(auto, unfolding(nfs_results::specs::Results::mounted))]
-pub fn read_mounted(alloc: Global, reader: &mut Reader) -> Result<Mounted, XdrFault>
-    ensures { Gives (λ x. (x, reader.new)) result (codes.mounted.read reader.old) }
-{
-    let root = read_handle(alloc, reader)?;
-    let flavors = read_flavors(alloc, reader)?;
-    Ok(Mounted { root, flavors })
+// What MNT gives.
+impl Decode for Mounted {
+    ghost code = { codes.mounted };
+
+    #[tactic(auto, unfolding(nfs_results::specs::Results::mounted))]
+    fn decode(alloc: Global, reader: &mut Reader) -> Result<Mounted, XdrFault> {
+        Ok(Mounted {
+            root: Handle::decode(alloc, reader)?,
+            flavors: NumberList::decode(alloc, reader)?,
+        })
+    }
 }
 
 // A counted list of flavors.
-#[tactic(auto, unfolding(nfs_results::specs::Results::flavors))]
-fn read_flavors(alloc: Global, reader: &mut Reader) -> Result<NumberList, XdrFault>
-    ensures { Gives (λ x. (x, reader.new)) result (codes.flavors.read reader.old) }
-{
-    let count = reader.unsigned()?;
-    if count as usize > RECORD_BYTES {
-        return Err(XdrFault::Length);
+impl Decode for NumberList {
+    ghost code = { codes.flavors };
+
+    #[tactic(auto, unfolding(nfs_results::specs::Results::flavors))]
+    fn decode(alloc: Global, reader: &mut Reader) -> Result<NumberList, XdrFault> {
+        let count = reader.unsigned()?;
+        if count as usize > RECORD_BYTES {
+            return Err(XdrFault::Length);
+        }
+        let numbers = read_numbers(alloc, count, reader)?;
+        Ok(NumberList::new(numbers))
     }
-    let numbers = read_numbers(alloc, count, reader)?;
-    Ok(NumberList::new(numbers))
 }
 
 // So many numbers.

@@ -18,17 +18,17 @@ use Rattle.nfs_codec.specs.Arguments.{EndsWith, call_of}
 use Rattle.nfs_codec.specs.Items.{handle, stability, text}
 use Rattle.nfs_codec.proofs.CallLaws.{taken_whole}
 
-ends : (bytes front string : List ℕ) → bytes ≡ front ++ (string ++ replicate (padding (length string)) 0)
+ends : (bytes leading string : List ℕ) → bytes ≡ leading ++ (string ++ replicate (padding (length string)) 0)
     → EndsWith bytes string
-ends bytes front string are =
+ends bytes leading string are =
     let zeros : List ℕ = replicate (padding (length string)) 0 in
     let many : length zeros ≡ padding (length string) = length-replicate (padding (length string)) 0 in
-    let counted : length bytes ≡ length front + length (string ++ zeros) =
-    ap length are ∙ length-append front (string ++ zeros) in
+    let counted : length bytes ≡ length leading + length (string ++ zeros) =
+    ap length are ∙ length-append leading (string ++ zeros) in
     let behind : length (string ++ zeros) ≡ length string + length zeros = length-append string zeros in record {
       within = omega (arith, many, counted, behind);
       is = ap (λ (all : List ℕ). take (length string) (drop (length bytes - (length string + padding (length string))) all)) are
-          ∙ ap (take (length string)) (drop_at front (string ++ zeros)
+          ∙ ap (take (length string)) (drop_at leading (string ++ zeros)
           (length bytes - (length string + padding (length string))) (omega (arith, many, counted, behind)))
           ∙ take_at string zeros (length string) refl;
     }

@@ -2,19 +2,19 @@
 //! arguments and results share, read and written. Their grammar stands in `specs/`.
 #![tactic(auto)]
 
+mod argument_laws;
 mod arguments;
 mod items;
-mod laws;
 mod numbers;
 mod procedure;
 mod put;
 mod status;
 
-pub use arguments::decode_call;
-pub use laws::{
+pub use argument_laws::{
     arguments_are_refused_so, arguments_share_no_spelling, spelled_arguments_are_read,
     spelling_gives_the_call,
 };
+pub use arguments::decode_call;
 pub use numbers::{number_of_kind, number_of_stability};
 pub use procedure::procedure_of;
 pub use put::{put_device, put_handle, put_moment, put_stability, put_text, put_verifier};

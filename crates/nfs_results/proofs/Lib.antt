@@ -1,3 +1,4 @@
 pub mod Numbers
 pub mod ReplyLaws
-pub mod Fronts
+pub mod Headers
+mod Refusals

@@ -22,9 +22,9 @@ use Rattle.xdr.proofs.Never as never
 use Rattle.xdr.proofs.Refusing.{made_err}
 use Rattle.xdr.proofs.Lawful.{IsCode, map_ok, words, doubles, flags, nothings, thens, vieweds, chains, counteds}
 use Rattle.xdr.proofs.Lawful.{or_is, HasNumbers, arms_are, unions, whole_takes, whole_again}
-use Rattle.nfs_results.specs.Results.{by_status, alone_made, alone_parts, alone}
+use Rattle.nfs_results.specs.Results.{by_status, default_void_made, default_void_parts, default_void}
 use Rattle.nfs_results.specs.Results.{behind_made, behind_parts, behind, before_made, before_parts, before}
-use Rattle.nfs_results.specs.Results.{looked, read_bytes, written, created, entry, entries, listed, entry_plus}
+use Rattle.nfs_results.specs.Results.{lookup_result, read_bytes, written, created, entry, entries, listed, entry_plus}
 use Rattle.nfs_results.specs.Results.{entries_plus, listed_plus, space, info, limits, flavors, mounted}
 use Rattle.nfs_results.specs.Results.{get_attr, set_attr, lookup, access, read_link, read, write, create}
 use Rattle.nfs_results.specs.Results.{remove}
@@ -64,16 +64,16 @@ status_numbers statuses.ServerFault = record { found = refl; small = omega arith
 statuses_are : {A B : Type 0} (F : Code A) (G : Code B) → IsCode F → IsCode G → IsCode (by_status F G)
 statuses_are F G f g = unions _ (or_is _ _ _ (omega arith) refl f (arms_are _ _ _ status_numbers g))
 
-alone_back : {A : Type 0} (x : A ⊎ (Status × Unit {0})) → alone_parts (alone_made x) ≡ x
-alone_back (inl x) = refl
-alone_back (inr x) = refl
+default_void_back : {A : Type 0} (x : A ⊎ (Status × Unit {0})) → default_void_parts (default_void_made x) ≡ x
+default_void_back (inl x) = refl
+default_void_back (inr x) = refl
 
-alone_forth : {A : Type 0} (o : Result A Status) → alone_made (alone_parts o) ≡ o
-alone_forth (Ok x) = refl
-alone_forth (Err s) = refl
+default_void_forth : {A : Type 0} (o : Result A Status) → default_void_made (default_void_parts o) ≡ o
+default_void_forth (Ok x) = refl
+default_void_forth (Err s) = refl
 
-alones : {A : Type 0} (F : Code A) → IsCode F → IsCode (alone F)
-alones F f = vieweds _ _ _ alone_back alone_forth (statuses_are F nothing f nothings)
+default_voids : {A : Type 0} (F : Code A) → IsCode F → IsCode (default_void F)
+default_voids F f = vieweds _ _ _ default_void_back default_void_forth (statuses_are F nothing f nothings)
 
 behind_back : {A B : Type 0} (x : (B × A) ⊎ (Status × B)) → behind_parts (behind_made x).0 (behind_made x).1 ≡ x
 behind_back (inl x) = refl
@@ -101,9 +101,9 @@ befores F G f g =
 
 -- ---- what comes after OK
 
-looked_is : IsCode looked
-unfolding looked
-looked_is = vieweds _ _ _ (λ b. refl) (λ a. refl) (thens _ _ handles optional_attributes_is)
+lookup_result_is : IsCode lookup_result
+unfolding lookup_result
+lookup_result_is = vieweds _ _ _ (λ b. refl) (λ a. refl) (thens _ _ handles optional_attributes_is)
 
 read_bytes_is : IsCode read_bytes
 unfolding read_bytes
@@ -173,7 +173,7 @@ mounted_is = vieweds _ _ _ (λ b. refl) (λ a. refl) (thens _ _ handles flavors_
 
 get_attrs : IsCode get_attr
 unfolding get_attr
-get_attrs = alones _ attributes_is
+get_attrs = default_voids _ attributes_is
 
 set_attrs : IsCode set_attr
 unfolding set_attr
@@ -181,7 +181,7 @@ set_attrs = behinds _ _ weak_caches nothings
 
 lookups : IsCode lookup
 unfolding lookup
-lookups = befores _ _ looked_is optional_attributes_is
+lookups = befores _ _ lookup_result_is optional_attributes_is
 
 accesses : IsCode access
 unfolding access
@@ -241,7 +241,7 @@ commits = behinds _ _ weak_caches verifiers
 
 mount_roots : IsCode mount_root
 unfolding mount_root
-mount_roots = alones _ mounted_is
+mount_roots = default_voids _ mounted_is
 
 -- ---- replies
 

@@ -1,12 +1,12 @@
 -- The results of procedures (RFC 1813, sections 3.3 and 5.2): how each is spelled, and the reply that it
 -- makes. A result begins with its status; NULL's has none.
-use Rattle.std.specs.Prelude.{◌≡◌, ◌⊎◌, ℕ, Bool, List, [], ◌∷◌, ◌++◌, length, replicate, Option, Result, Ok, Err, false}
+use Rattle.std.specs.Prelude.{◌≡◌, ◌⊎◌, ℕ, Bool, List, [], ◌++◌, length, replicate, Option, Result, Ok, Err, false}
 use Rattle.std.proofs.Common.{inl, inr}
 use Rattle.base.specs.declared.TheConstants.{RECORD_BYTES}
 use Rattle.nfs_types.specs.declared.attributes.Attributes.{Attributes}
 use Rattle.nfs_types.specs.declared.attributes.WeakCacheData.{WeakCacheData}
-use Rattle.nfs_types.specs.declared.entries.ListedEntry.{ListedEntry}
-use Rattle.nfs_types.specs.declared.entries.ListedEntryPlus.{ListedEntryPlus}
+use Rattle.nfs_types.specs.declared.entries.ListedItem.{ListedItem}
+use Rattle.nfs_types.specs.declared.entries.ListedItemPlus.{ListedItemPlus}
 use Rattle.nfs_types.specs.declared.mount.Mounted.{Mounted}
 use Rattle.nfs_types.specs.declared.mount.MountReply.{MountReply}
 use Rattle.nfs_types.specs.declared.mount.MountReply.TheVariants as mount_replies
@@ -23,14 +23,13 @@ use Rattle.nfs_types.specs.declared.reply.FileSystemInfo.{FileSystemInfo}
 use Rattle.nfs_types.specs.declared.reply.FileSystemSpace.{FileSystemSpace}
 use Rattle.nfs_types.specs.declared.reply.Listed.{Listed}
 use Rattle.nfs_types.specs.declared.reply.ListedPlus.{ListedPlus}
-use Rattle.nfs_types.specs.declared.reply.Looked.{Looked}
+use Rattle.nfs_types.specs.declared.reply.LookupResult.{LookupResult}
 use Rattle.nfs_types.specs.declared.reply.PathLimits.{PathLimits}
 use Rattle.nfs_types.specs.declared.reply.ReadBytes.{ReadBytes}
 use Rattle.nfs_types.specs.declared.reply.Reply.{Reply}
 use Rattle.nfs_types.specs.declared.reply.Reply.TheVariants as replies
 use Rattle.nfs_types.specs.declared.reply.Written.{Written}
 use Rattle.nfs_types.specs.declared.status.Status.{Status}
-use Rattle.nfs_types.specs.declared.status.Status.TheVariants as statuses
 use Rattle.nfs_types.specs.declared.verifier.Verifier.{Verifier}
 use Rattle.xdr.specs.declared.fault.XdrFault.{XdrFault}
 use Rattle.xdr.specs.Items as items
@@ -52,17 +51,17 @@ by_status done refused = union (arm_or 0 done (arms status_number refusals refus
 
 -- ---- outcomes, and what comes with a refusal too
 
-abbrev pub alone_made : {A : Type 0} → A ⊎ (Status × Unit {0}) → Result A Status
-alone_made (inl x) = Ok x
-alone_made (inr s) = Err s.0
+abbrev pub default_void_made : {A : Type 0} → A ⊎ (Status × Unit {0}) → Result A Status
+default_void_made (inl x) = Ok x
+default_void_made (inr s) = Err s.0
 
-abbrev pub alone_parts : {A : Type 0} → Result A Status → A ⊎ (Status × Unit {0})
-alone_parts (Ok x) = inl x
-alone_parts (Err s) = inr (s, tt)
+abbrev pub default_void_parts : {A : Type 0} → Result A Status → A ⊎ (Status × Unit {0})
+default_void_parts (Ok x) = inl x
+default_void_parts (Err s) = inr (s, tt)
 
 -- nothing comes with a refusal
-abbrev pub alone : {A : Type 0} → Code A → Code (Result A Status)
-alone done = viewed alone_made alone_parts (by_status done nothing)
+abbrev pub default_void : {A : Type 0} → Code A → Code (Result A Status)
+default_void done = viewed default_void_made default_void_parts (by_status done nothing)
 
 abbrev pub behind_made : {A B : Type 0} → (B × A) ⊎ (Status × B) → Result A Status × B
 behind_made (inl x) = (Ok x.1, x.0)
@@ -90,8 +89,8 @@ before done both = viewed before_made (λ r. before_parts r.0 r.1) (by_status (d
 
 -- ---- what comes after OK
 
-unfoldable pub looked : Code Looked
-looked = viewed (λ x. record { object = x.0; attributes = x.1 }) (λ l. (l.object, l.attributes))
+unfoldable pub lookup_result : Code LookupResult
+lookup_result = viewed (λ x. record { object = x.0; attributes = x.1 }) (λ l. (l.object, l.attributes))
     (handle then optional_attributes)
 
 -- the count of the bytes, whether the file ends behind them, and the bytes
@@ -108,11 +107,11 @@ created = viewed (λ x. record { object = x.0; attributes = x.1 }) (λ c. (c.obj
     (optional_handle then optional_attributes)
 
 -- `entry3`
-unfoldable pub entry : Code ListedEntry
+unfoldable pub entry : Code ListedItem
 entry = viewed (λ x. record { number = x.0; name = x.1.0; cookie = x.1.1 })
     (λ e. (e.number, (e.name, e.cookie))) (double then text then double)
 
-unfoldable pub entries : Code (List ListedEntry)
+unfoldable pub entries : Code (List ListedItem)
 entries = chain entry
 
 unfoldable pub listed : Code Listed
@@ -120,7 +119,7 @@ listed = viewed (λ x. record { verifier = x.0; entries = x.1.0; eof = x.1.1 })
     (λ l. (l.verifier, (l.entries, l.eof))) (verifier then entries then flag)
 
 -- `entryplus3`
-unfoldable pub entry_plus : Code ListedEntryPlus
+unfoldable pub entry_plus : Code ListedItemPlus
 entry_plus = viewed
     (λ x. record {
       number = x.0;
@@ -132,7 +131,7 @@ entry_plus = viewed
     (λ e. (e.number, (e.name, (e.cookie, (e.attributes, e.handle)))))
     (double then text then double then optional_attributes then optional_handle)
 
-unfoldable pub entries_plus : Code (List ListedEntryPlus)
+unfoldable pub entries_plus : Code (List ListedItemPlus)
 entries_plus = chain entry_plus
 
 unfoldable pub listed_plus : Code ListedPlus
@@ -240,13 +239,13 @@ mounted = viewed (λ x. record { root = x.0; flavors = x.1 }) (λ m. (m.root, m.
 -- ---- a code for each procedure
 
 unfoldable pub get_attr : Code (Result Attributes Status)
-get_attr = alone attributes
+get_attr = default_void attributes
 
 unfoldable pub set_attr : Code (Result (Unit {0}) Status × WeakCacheData)
 set_attr = behind weak_cache nothing
 
-unfoldable pub lookup : Code (Result Looked Status × Option Attributes)
-lookup = before looked optional_attributes
+unfoldable pub lookup : Code (Result LookupResult Status × Option Attributes)
+lookup = before lookup_result optional_attributes
 
 unfoldable pub access : Code (Result ℕ Status × Option Attributes)
 access = behind optional_attributes word
@@ -294,7 +293,7 @@ commit = behind weak_cache verifier
 
 -- MNT
 unfoldable pub mount_root : Code (Result Mounted Status)
-mount_root = alone mounted
+mount_root = default_void mounted
 
 -- ---- the result that a reply bears
 
@@ -334,10 +333,10 @@ result_bytes (program_replies.Mount reply) = mount_result_bytes reply
 -- ---- the data of a READ, the last item of its result, and what is in front of it
 
 -- all but the data and its padding
-abbrev pub read_front : Result ReadBytes Status → Option Attributes → List ℕ
-read_front (Ok done) file = items.word 0 ++ optional_attributes.spell file
+abbrev pub read_result_header : Result ReadBytes Status → Option Attributes → List ℕ
+read_result_header (Ok done) file = items.word 0 ++ optional_attributes.spell file
     ++ items.word done.count ++ items.flag done.eof ++ items.word (length done.bytes)
-read_front (Err status) file = read.spell (Err status, file)
+read_result_header (Err status) file = read.spell (Err status, file)
 
 -- bytes, and zeros up to a multiple of four
 abbrev pub padded : List ℕ → List ℕ
@@ -348,22 +347,14 @@ read_data (Ok done) = padded done.bytes
 read_data (Err status) = []
 
 -- all of a result but the data of a READ
-abbrev pub nfs_front : Reply → List ℕ
-nfs_front (replies.Read outcome file) = read_front outcome file
-nfs_front reply = nfs_result_bytes reply
-
-abbrev pub front_bytes : ProgramReply → List ℕ
-front_bytes (program_replies.Nfs reply) = nfs_front reply
-front_bytes (program_replies.Mount reply) = mount_result_bytes reply
+abbrev pub nfs_result_header : Reply → List ℕ
+nfs_result_header (replies.Read outcome file) = read_result_header outcome file
+nfs_result_header reply = nfs_result_bytes reply
 
 -- the data of a READ, padded; nothing of another reply
 abbrev pub nfs_data : Reply → List ℕ
 nfs_data (replies.Read outcome file) = read_data outcome
 nfs_data reply = []
-
-abbrev pub data_bytes : ProgramReply → List ℕ
-data_bytes (program_replies.Nfs reply) = nfs_data reply
-data_bytes (program_replies.Mount reply) = []
 
 -- ---- whether a length in a reply is past what four bytes can tell
 

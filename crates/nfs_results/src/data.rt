@@ -1,13 +1,14 @@
 //! The data of a READ, which stand last in its result and are written nowhere but to where the reply goes.
-ghost use Rattle.std.specs.Prelude.{◌≡◌, ◌++◌, false, length, replicate, IfOk, OnErr, OnOk};
+ghost use Rattle.std.specs.Prelude.{◌≡◌, false, flat_map, length, IfOk};
 ghost use Rattle.nfs_results.specs.Results.{nfs_data, nfs_too_long, padded, read_data};
-ghost use Rattle.xdr.specs.Items.{is_uncounted, padding};
+ghost use Rattle.xdr.specs.Items.{is_uncounted};
+ghost use Rattle.xdr.specs.Writing.{WritesBytes};
 
-use nfs_types::{Pieces, ReadBytes, Reply, Status};
-use std::alloc::AllocError;
+use nfs_types::{Pieces, ReadBytes, Reply, SharedOctets, Status};
+use xdr::{Writer, XdrFault};
 
 /// How many bytes the data of a reply take, with their padding: none but those of a READ take any.
-#[tactic(auto, using(crate::proofs::Fronts::counted))]
+#[tactic(auto, using(crate::proofs::Headers::counted))]
 pub fn data_len(reply: &Reply) -> usize
     requires { nfs_too_long reply.now ≡ false }
     ensures { result ≡ length (nfs_data reply.now) }
@@ -29,16 +30,15 @@ fn read_len(outcome: &Result<ReadBytes, Status>) -> usize
     }
 }
 
-/// Copies the data of a reply, with their padding, behind other bytes. Where memory is refused nothing changes.
-pub fn append_data(reply: &Reply, out: &mut Vec<u8>) -> Result<(), AllocError>
-    ensures appended { OnOk result (out.new.items ≡ out.old.items ++ nfs_data reply.now) }
-    ensures refused { OnErr result (out.new.items ≡ out.old.items) }
+/// Copies the data of a reply, with their padding, behind what is there.
+pub fn put_data(out: &mut Writer, reply: &Reply) -> Result<(), XdrFault>
+    ensures { WritesBytes result out.old out.new (nfs_data reply.now) false }
 {
     match reply {
         Reply::Read {
             outcome: Ok(done),
             ..
-        } => append_padded(&done.bytes, out),
+        } => put_padded(out, &done.bytes),
         _ => Ok(()),
     }
 }
@@ -52,28 +52,19 @@ fn padded_len(bytes: &Pieces) -> usize
 }
 
 // Copies these bytes and their padding.
-fn append_padded(bytes: &Pieces, out: &mut Vec<u8>) -> Result<(), AllocError>
-    ensures appended { OnOk result (out.new.items ≡ out.old.items ++ padded bytes.now) }
-    ensures refused { OnErr result (out.new.items ≡ out.old.items) }
+fn put_padded(out: &mut Writer, bytes: &Pieces) -> Result<(), XdrFault>
+    ensures { WritesBytes result out.old out.new (padded bytes.now) false }
 {
-    let len = out.len();
-    bytes.append_to(out)?;
-    let put = append_padding(bytes.len(), out);
-    if put.is_err() {
-        out.truncate(len);
-    }
-    put
+    put_parts(out, bytes.parts())?;
+    out.padding(bytes.len())
 }
 
-// Puts the zeros that stand behind so many bytes.
-fn append_padding(len: usize, out: &mut Vec<u8>) -> Result<(), AllocError>
-    ensures appended { OnOk result (out.new.items ≡ out.old.items ++ replicate (padding len) 0) }
-    ensures refused { OnErr result (out.new.items ≡ out.old.items) }
+// Copies these pieces, one behind the other.
+fn put_parts(out: &mut Writer, parts: &[SharedOctets]) -> Result<(), XdrFault>
+    ensures { WritesBytes result out.old out.new (flat_map (λ part. part) parts.now) false }
 {
-    match len % 4 {
-        0 => Ok(()),
-        1 => out.extend_from_slice(&[0, 0, 0]),
-        2 => out.extend_from_slice(&[0, 0]),
-        _ => out.extend_from_slice(&[0]),
+    for part in parts {
+        out.raw(part.as_slice())?;
     }
+    Ok(())
 }

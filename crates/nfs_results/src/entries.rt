@@ -2,9 +2,9 @@
 ghost use Rattle.xdr.specs.Writing.{Writes};
 ghost use Rattle.nfs_results.specs.Results as codes;
 
-use crate::told::{put_optional_attributes, put_optional_handle};
+use crate::file_attributes::{put_optional_attributes, put_optional_handle};
 use nfs_codec::{put_text, put_verifier};
-use nfs_types::{Listed, ListedEntry, ListedEntryPlus, ListedPlus};
+use nfs_types::{Listed, ListedItem, ListedItemPlus, ListedPlus};
 use xdr::{Writer, XdrFault};
 
 /// What READDIR lists.
@@ -18,7 +18,7 @@ pub fn put_listed(out: &mut Writer, listed: &Listed) -> Result<(), XdrFault>
 }
 
 // Each entry behind a true flag, and a false one behind the last.
-fn put_entries(out: &mut Writer, entries: &[ListedEntry]) -> Result<(), XdrFault>
+fn put_entries(out: &mut Writer, entries: &[ListedItem]) -> Result<(), XdrFault>
     ensures { Writes codes.entries result out.old out.new entries.now }
 {
     for entry in entries {
@@ -30,7 +30,7 @@ fn put_entries(out: &mut Writer, entries: &[ListedEntry]) -> Result<(), XdrFault
 }
 
 #[tactic(auto, unfolding(crate::specs::Results::entry))]
-fn put_entry(out: &mut Writer, entry: &ListedEntry) -> Result<(), XdrFault>
+fn put_entry(out: &mut Writer, entry: &ListedItem) -> Result<(), XdrFault>
     ensures { Writes codes.entry result out.old out.new entry.now }
 {
     out.hyper(entry.number)?;
@@ -48,7 +48,7 @@ pub fn put_listed_plus(out: &mut Writer, listed: &ListedPlus) -> Result<(), XdrF
     out.flag(listed.eof)
 }
 
-fn put_entries_plus(out: &mut Writer, entries: &[ListedEntryPlus]) -> Result<(), XdrFault>
+fn put_entries_plus(out: &mut Writer, entries: &[ListedItemPlus]) -> Result<(), XdrFault>
     ensures { Writes codes.entries_plus result out.old out.new entries.now }
 {
     for entry in entries {
@@ -60,7 +60,7 @@ fn put_entries_plus(out: &mut Writer, entries: &[ListedEntryPlus]) -> Result<(),
 }
 
 #[tactic(auto, unfolding(crate::specs::Results::entry_plus))]
-fn put_entry_plus(out: &mut Writer, entry: &ListedEntryPlus) -> Result<(), XdrFault>
+fn put_entry_plus(out: &mut Writer, entry: &ListedItemPlus) -> Result<(), XdrFault>
     ensures { Writes codes.entry_plus result out.old out.new entry.now }
 {
     out.hyper(entry.number)?;

@@ -4,14 +4,13 @@
 
 mod data;
 mod entries;
-mod laws;
+mod file_attributes;
 mod outcomes;
+mod result_laws;
 mod results;
-mod told;
 
-pub use data::{append_data, data_len};
-pub use laws::{
+pub use result_laws::{
     results_are_refused_so, results_share_no_spelling, spelled_results_are_read,
     spelling_gives_the_reply,
 };
-pub use results::{encode_front, encode_mount_reply, encode_reply};
+pub use results::{encode_into, encode_reply, put_mount_reply, put_reply, reply_len};

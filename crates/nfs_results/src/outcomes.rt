@@ -2,20 +2,23 @@
 ghost use Rattle.std.specs.Prelude.{false};
 ghost use Rattle.xdr.specs.Writing.{Writes, WritesBytes};
 ghost use Rattle.nfs_results.specs.Results as codes;
-ghost use Rattle.xdr.specs.Codes.{word, items_bytes};
+ghost use Rattle.xdr.specs.Codes.{double, word, items_bytes, ◌then◌};
+ghost use Rattle.nfs_codec.specs.Items.{moment};
 
-use crate::told::{put_optional_attributes, put_optional_handle};
+use crate::file_attributes::{put_optional_attributes, put_optional_handle};
 use nfs_codec::{put_handle, put_moment, put_stability, put_verifier};
-use nfs_types::{Created, FileSystemInfo, FileSystemSpace, Looked, Mounted, PathLimits, Written};
+use nfs_types::{
+    Created, FileSystemInfo, FileSystemSpace, LookupResult, Mounted, PathLimits, Written,
+};
 use xdr::{Writer, XdrFault};
 
 /// What LOOKUP found.
-#[tactic(auto, unfolding(crate::specs::Results::looked))]
-pub fn put_looked(out: &mut Writer, looked: &Looked) -> Result<(), XdrFault>
-    ensures { Writes codes.looked result out.old out.new looked.now }
+#[tactic(auto, unfolding(crate::specs::Results::lookup_result))]
+pub fn put_lookup_result(out: &mut Writer, lookup_result: &LookupResult) -> Result<(), XdrFault>
+    ensures { Writes codes.lookup_result result out.old out.new lookup_result.now }
 {
-    put_handle(out, &looked.object)?;
-    put_optional_attributes(out, &looked.attributes)
+    put_handle(out, &lookup_result.object)?;
+    put_optional_attributes(out, &lookup_result.attributes)
 }
 
 /// What WRITE did.
@@ -45,11 +48,18 @@ pub fn put_space(out: &mut Writer, space: &FileSystemSpace) -> Result<(), XdrFau
     out.hyper(space.total_bytes)?;
     out.hyper(space.free_bytes)?;
     out.hyper(space.available_bytes)?;
+    put_files(out, space)
+}
+
+// How many files there may be, and for how long that holds.
+fn put_files(out: &mut Writer, space: &FileSystemSpace) -> Result<(), XdrFault>
+    ensures { Writes (double then double then double then word) result out.old out.new
+        (space.now.total_files, (space.now.free_files, (space.now.available_files, space.now.unchanged_seconds))) }
+{
     out.hyper(space.total_files)?;
     out.hyper(space.free_files)?;
     out.hyper(space.available_files)?;
-    out.unsigned(space.unchanged_seconds)?;
-    Ok(())
+    out.unsigned(space.unchanged_seconds)
 }
 
 /// What FSINFO tells.
@@ -62,12 +72,21 @@ pub fn put_info(out: &mut Writer, info: &FileSystemInfo) -> Result<(), XdrFault>
     out.unsigned(info.read_multiple)?;
     out.unsigned(info.write_max)?;
     out.unsigned(info.write_preferred)?;
+    put_other_info(out, info)
+}
+
+// What of it comes behind the sizes of a READ and a WRITE.
+fn put_other_info(out: &mut Writer, info: &FileSystemInfo) -> Result<(), XdrFault>
+    ensures { Writes (word then word then double then moment then word) result out.old out.new (
+      info.now.write_multiple,
+      (info.now.directory_preferred, (info.now.largest_file, (info.now.time_delta, info.now.properties))),
+    ) }
+{
     out.unsigned(info.write_multiple)?;
     out.unsigned(info.directory_preferred)?;
     out.hyper(info.largest_file)?;
     put_moment(out, &info.time_delta)?;
-    out.unsigned(info.properties)?;
-    Ok(())
+    out.unsigned(info.properties)
 }
 
 /// What PATHCONF tells.

@@ -1,50 +1,79 @@
 //! Writing the results of calls (RFC 1813, sections 3.3 and 5.2).
-ghost use Rattle.std.specs.Prelude.{◌≡◌, false, IfOk, IfErr};
-ghost use Rattle.xdr.specs.Writing.{Writes, WritesBytes, Encodes, RefusesToWrite};
+ghost use Rattle.std.specs.Prelude.{◌≡◌, ◌⊎◌, ◌++◌, ◌+◌, ◌-◌, ◌^◌, ◌≤◌, length, min, true, false, IfOk, IfErr};
+ghost use Rattle.std.specs.Prelude.{IfSome, IfNone};
+ghost use Rattle.xdr.specs.Writing.{Writes, WritesBytes};
+ghost use Rattle.xdr.specs.declared.fault.XdrFault.TheVariants.{Length, NoMemory};
 ghost use Rattle.xdr.specs.Items.{word};
 ghost use Rattle.nfs_results.specs.Results as codes;
-ghost use Rattle.nfs_results.specs.Results.{result_bytes, nfs_result_bytes, mount_result_bytes, front_bytes, nfs_front};
-ghost use Rattle.nfs_results.specs.Results.{read_front};
-ghost use Rattle.nfs_results.specs.Results.{too_long, nfs_too_long, mount_too_long};
+ghost use Rattle.nfs_results.specs.Results.{nfs_result_bytes, mount_result_bytes, nfs_result_header};
+ghost use Rattle.nfs_results.specs.Results.{read_result_header};
+ghost use Rattle.nfs_results.specs.Results.{nfs_too_long, mount_too_long};
 ghost use Rattle.nfs_codec.specs.Statuses.{status_number};
-ghost use Rattle.nfs_types.specs.declared.program.ProgramReply.TheVariants as program_replies;
 
-use crate::data::append_data;
+use crate::data::{data_len, put_data};
 use crate::entries::{put_listed, put_listed_plus};
+use crate::file_attributes::{put_attributes, put_optional_attributes, put_weak_cache};
 use crate::outcomes::{
-    put_created, put_info, put_limits, put_looked, put_mounted, put_space, put_written,
+    put_created, put_info, put_limits, put_lookup_result, put_mounted, put_space, put_written,
 };
-use crate::told::{put_attributes, put_optional_attributes, put_weak_cache};
 use nfs_codec::{number_of_status, put_text, put_verifier};
 use nfs_types::{
-    Attributes, Created, FileSystemInfo, FileSystemSpace, Listed, ListedPlus, Looked, MountReply,
-    Mounted, Octets, PathLimits, ReadBytes, Reply, Status, Verifier, WeakCacheData, Written,
+    Attributes, Created, FileSystemInfo, FileSystemSpace, Listed, ListedPlus, LookupResult,
+    MountReply, Mounted, Octets, PathLimits, ReadBytes, Reply, Status, Verifier, WeakCacheData,
+    Written,
 };
 use std::alloc::Global;
 use xdr::{Writer, XdrFault};
 
-/// Writes the result of a procedure of NFS behind what is there, all but the data of a READ.
-pub fn encode_front(out: Writer, reply: &Reply) -> Result<Writer, XdrFault>
-    ensures { Encodes result out (front_bytes (program_replies.Nfs reply.now))
-        (too_long (program_replies.Nfs reply.now)) }
+/// Writes the result of a procedure of NFS behind what is there.
+pub fn put_reply(out: &mut Writer, reply: &Reply) -> Result<(), XdrFault>
+    ensures { WritesBytes result out.old out.new (nfs_result_bytes reply.now) (nfs_too_long reply.now) }
 {
-    let mut out = out;
-    put_front(&mut out, reply)?;
-    Ok(out)
+    put_result_header(out, reply)?;
+    put_data(out, reply)
 }
 
-/// The result of a procedure of NFS, all of it.
+/// Writes the same where the writer has the capacity for it: that takes no memory.
+pub fn encode_into(reply: &Reply, out: &mut Writer)
+    requires short { nfs_too_long reply.now ≡ false }
+    requires capacity { length out.old.bytes + length (nfs_result_bytes reply.now) ≤ out.old.capacity }
+    ensures written { out.new.bytes ≡ out.old.bytes ++ nfs_result_bytes reply.now }
+    ensures capacity { out.old.capacity ≤ out.new.capacity }
+    ensures counts { out.new.counts ≡ out.old.counts }
+{
+    match put_reply(out, reply) {
+        Ok(()) => {}
+        Err(_) => unreachable!(),
+    }
+}
+
+/// How many bytes the result of a procedure of NFS has, or 2^64 - 1 where they are more. None where it has a length that
+/// four bytes can't tell. It takes no memory.
+pub fn reply_len(alloc: Global, reply: &Reply) -> Option<usize>
+    ensures some { IfSome result (λ n. (n ≡ min (length (nfs_result_bytes reply.now)) (2 ^ 64 - 1))
+        × (nfs_too_long reply.now ≡ false)) }
+    ensures none { IfNone result (nfs_too_long reply.now ≡ true) }
+{
+    let mut out = Writer::counting(alloc);
+    match put_result_header(&mut out, reply) {
+        Ok(()) => Some(out.count().saturating_add(data_len(reply))),
+        Err(_) => None,
+    }
+}
+
+/// The result of a procedure of NFS.
 pub fn encode_reply(alloc: Global, reply: &Reply) -> Result<Vec<u8>, XdrFault>
     ensures ok { IfOk result (λ bytes. (bytes.items ≡ nfs_result_bytes reply.now) × (nfs_too_long reply.now ≡ false)) }
-    ensures err { IfErr result (λ e. RefusesToWrite e (nfs_too_long reply.now)) }
+    ensures err { IfErr result (λ e. ((e ≡ Length) × (nfs_too_long reply.now ≡ true)) ⊎ (e ≡ NoMemory)) }
 {
-    let mut bytes = encode_front(Writer::new(alloc), reply)?.into_bytes();
-    append_data(reply, &mut bytes)?;
-    Ok(bytes)
+    let mut out = Writer::new(alloc);
+    put_reply(&mut out, reply)?;
+    Ok(out.into_bytes())
 }
 
-fn put_front(out: &mut Writer, reply: &Reply) -> Result<(), XdrFault>
-    ensures { WritesBytes result out.old out.new (nfs_front reply.now) (nfs_too_long reply.now) }
+// All of it but the data of a READ.
+fn put_result_header(out: &mut Writer, reply: &Reply) -> Result<(), XdrFault>
+    ensures { WritesBytes result out.old out.new (nfs_result_header reply.now) (nfs_too_long reply.now) }
 {
     match reply {
         Reply::Null => Ok(()),
@@ -81,16 +110,7 @@ fn put_front(out: &mut Writer, reply: &Reply) -> Result<(), XdrFault>
 }
 
 /// Writes the result of a procedure of MOUNT behind what is there.
-pub fn encode_mount_reply(out: Writer, reply: &MountReply) -> Result<Writer, XdrFault>
-    ensures { Encodes result out (result_bytes (program_replies.Mount reply.now))
-        (too_long (program_replies.Mount reply.now)) }
-{
-    let mut out = out;
-    put_mount_reply(&mut out, reply)?;
-    Ok(out)
-}
-
-fn put_mount_reply(out: &mut Writer, reply: &MountReply) -> Result<(), XdrFault>
+pub fn put_mount_reply(out: &mut Writer, reply: &MountReply) -> Result<(), XdrFault>
     ensures { WritesBytes result out.old out.new (mount_result_bytes reply.now) (mount_too_long reply.now) }
 {
     match reply {
@@ -136,7 +156,7 @@ fn put_set_attr(
 #[tactic(auto, unfolding(crate::specs::Results::lookup))]
 fn put_lookup(
     out: &mut Writer,
-    outcome: &Result<Looked, Status>,
+    outcome: &Result<LookupResult, Status>,
     directory: &Option<Attributes>,
 ) -> Result<(), XdrFault>
     ensures { Writes codes.lookup result out.old out.new (outcome.now, directory.now) }
@@ -144,7 +164,7 @@ fn put_lookup(
     match outcome {
         Ok(done) => {
             out.unsigned(0)?;
-            put_looked(out, done)?;
+            put_lookup_result(out, done)?;
             put_optional_attributes(out, directory)
         }
         Err(status) => {
@@ -203,7 +223,7 @@ fn put_read(
     outcome: &Result<ReadBytes, Status>,
     file: &Option<Attributes>,
 ) -> Result<(), XdrFault>
-    ensures { WritesBytes result out.old out.new (read_front outcome.now file.now)
+    ensures { WritesBytes result out.old out.new (read_result_header outcome.now file.now)
         (codes.read.too_long (outcome.now, file.now)) }
 {
     match outcome {

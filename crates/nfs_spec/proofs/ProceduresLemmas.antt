@@ -1,8 +1,8 @@
 pub mod Adding
 pub mod Answer
-pub mod Deeds
+pub mod TreeChanges
 pub mod Doing
-pub mod Entering
+pub mod NameChanges
 pub mod Failures
 pub mod Joined
 pub mod Keeping
@@ -13,7 +13,7 @@ pub mod Overwriting
 pub mod Parts
 pub mod Removed
 pub mod Renaming
-pub mod Room
+pub mod UsedWithin
 pub mod Served
 pub mod SoundSteps
 pub mod Soundness

@@ -26,5 +26,5 @@ pub mod RmDir
 pub mod Stamps
 pub mod Step
 pub mod SymLink
-pub mod Told
+pub mod StepForms
 pub mod Write

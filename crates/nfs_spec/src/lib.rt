@@ -13,16 +13,16 @@ pub use lives::{
     the_root_was_there_at_the_start,
 };
 pub use model::{
-    a_files_handle_names_it, a_mode_alone_is_set, a_setattr_keeps_trees_sound,
-    a_setattr_makes_no_later_stamp, a_setattr_tells_no_failure, another_stamp_is_stale,
-    each_setattr_has_a_step, setattr_is_determined, the_format_tree_is_sound,
-    the_guard_comes_first, the_owners_bits_count_alone,
+    a_files_handle_names_it, a_setattr_makes_no_later_stamp, a_setattr_preserves_trees_sound,
+    a_setattr_tells_no_failure, another_stamp_is_stale, each_setattr_has_a_step,
+    only_a_mode_is_set, only_the_owners_bits_count, setattr_is_determined,
+    the_format_tree_is_sound, the_guard_comes_first,
 };
 pub use procedures::{
     ACCESS_DELETE, ACCESS_EXECUTE, ACCESS_EXTEND, ACCESS_LOOKUP, ACCESS_MODIFY, ACCESS_READ,
     FIRST_SLOT_COOKIE, HAS_LINKS, HAS_SYMBOLIC_LINKS, IS_HOMOGENEOUS, ITSELF_COOKIE, PARENT_COOKIE,
     SETS_TIMES, a_commit_bears_the_verifier_of_what_was_written, a_hole_is_zeros,
-    a_numbered_step_is_determined, a_read_beside_it_gives_what_was_there,
+    a_numbered_step_is_determined, a_read_elsewhere_gives_what_was_there,
     a_read_gives_what_was_written, a_refusal_leaves_the_tree, a_stale_handle_stays_stale,
     a_step_that_makes_no_file_is_determined, a_write_of_no_bytes_leaves_the_tree,
     a_write_takes_what_it_needs, an_empty_history_leads_nowhere, each_call_has_a_step,

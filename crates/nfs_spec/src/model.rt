@@ -9,10 +9,10 @@ mod trees;
 
 pub use handles::a_files_handle_names_it;
 pub use rules::{
-    a_mode_alone_is_set, another_stamp_is_stale, the_guard_comes_first, the_owners_bits_count_alone,
+    another_stamp_is_stale, only_a_mode_is_set, only_the_owners_bits_count, the_guard_comes_first,
 };
 pub use setattr::{
-    a_setattr_keeps_trees_sound, a_setattr_makes_no_later_stamp, a_setattr_tells_no_failure,
+    a_setattr_makes_no_later_stamp, a_setattr_preserves_trees_sound, a_setattr_tells_no_failure,
     each_setattr_has_a_step, setattr_is_determined,
 };
 pub use trees::the_format_tree_is_sound;

@@ -19,7 +19,7 @@ pub use calls::no_stable_answer_tells_a_failure;
 pub use cookies::{FIRST_SLOT_COOKIE, ITSELF_COOKIE, PARENT_COOKIE};
 pub use files::{
     a_commit_bears_the_verifier_of_what_was_written, a_hole_is_zeros,
-    a_read_beside_it_gives_what_was_there, a_read_gives_what_was_written,
+    a_read_elsewhere_gives_what_was_there, a_read_gives_what_was_written,
     a_write_of_no_bytes_leaves_the_tree, a_write_takes_what_it_needs, one_file_needs_what_it_adds,
     the_last_name_takes_the_file_with_it, what_is_written_is_read, what_lies_before_stays,
     what_lies_behind_stays,

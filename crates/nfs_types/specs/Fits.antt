@@ -41,9 +41,9 @@ abbrev pub TextFits : List ℕ → Type 0
 TextFits text = StringFits RECORD_BYTES text
 
 -- a name in a directory (`diropargs3`)
-pub record DirectoryNameFits (place : DirectoryName) : Type 0 where
-  pub directory : HandleFits place.directory
-  pub name : TextFits place.name
+pub record DirectoryNameFits (dentry : DirectoryName) : Type 0 where
+  pub directory : HandleFits dentry.directory
+  pub name : TextFits dentry.name
 
 -- a time (`nfstime3`), whose nanoseconds the server still has to test
 pub record MomentFits (time : Moment) : Type 0 where

@@ -1,3 +1,4 @@
+pub mod CallFacts
 pub mod Fits
 pub mod Handle
 pub mod Verifier

@@ -7,7 +7,7 @@ use std::marker::Model;
 
 /// A name, the number of the file that it names, and the cookie that the next listing goes on from.
 #[derive(Clone, Drop)]
-pub struct ListedEntry {
+pub struct ListedItem {
     pub number: u64,
     pub name: Octets,
     pub cookie: u64,
@@ -15,7 +15,7 @@ pub struct ListedEntry {
 
 /// An entry with what READDIRPLUS tells of its file.
 #[derive(Clone, Drop)]
-pub struct ListedEntryPlus {
+pub struct ListedItemPlus {
     pub number: u64,
     pub name: Octets,
     pub cookie: u64,
@@ -26,14 +26,14 @@ pub struct ListedEntryPlus {
 /// Entries in the order of their cookies.
 #[derive(Drop)]
 pub struct ListedEntries {
-    entries: Vec<ListedEntry>,
+    entries: Vec<ListedItem>,
 }
 
 impl Model for ListedEntries {
     ghost use Rattle.std.specs.Prelude.{List};
-    ghost use Rattle.nfs_types.specs.declared.entries.ListedEntry.{ListedEntry};
+    ghost use Rattle.nfs_types.specs.declared.entries.ListedItem.{ListedItem};
 
-    ghost Value = { List ListedEntry };
+    ghost Value = { List ListedItem };
 
     ghost view = { λ e. e.entries.items };
 }
@@ -49,13 +49,13 @@ impl Clone for ListedEntries {
 }
 
 impl ListedEntries {
-    pub fn new(entries: Vec<ListedEntry>) -> ListedEntries
+    pub fn new(entries: Vec<ListedItem>) -> ListedEntries
         ensures { result ≡ entries.items }
     {
         ListedEntries { entries }
     }
 
-    pub fn as_slice(&self) -> &[ListedEntry]
+    pub fn as_slice(&self) -> &[ListedItem]
         ensures { result.now ≡ self.now }
     {
         &self.entries
@@ -65,14 +65,14 @@ impl ListedEntries {
 /// Entries of READDIRPLUS in the order of their cookies.
 #[derive(Drop)]
 pub struct ListedEntriesPlus {
-    entries: Vec<ListedEntryPlus>,
+    entries: Vec<ListedItemPlus>,
 }
 
 impl Model for ListedEntriesPlus {
     ghost use Rattle.std.specs.Prelude.{List};
-    ghost use Rattle.nfs_types.specs.declared.entries.ListedEntryPlus.{ListedEntryPlus};
+    ghost use Rattle.nfs_types.specs.declared.entries.ListedItemPlus.{ListedItemPlus};
 
-    ghost Value = { List ListedEntryPlus };
+    ghost Value = { List ListedItemPlus };
 
     ghost view = { λ e. e.entries.items };
 }
@@ -88,13 +88,13 @@ impl Clone for ListedEntriesPlus {
 }
 
 impl ListedEntriesPlus {
-    pub fn new(entries: Vec<ListedEntryPlus>) -> ListedEntriesPlus
+    pub fn new(entries: Vec<ListedItemPlus>) -> ListedEntriesPlus
         ensures { result ≡ entries.items }
     {
         ListedEntriesPlus { entries }
     }
 
-    pub fn as_slice(&self) -> &[ListedEntryPlus]
+    pub fn as_slice(&self) -> &[ListedItemPlus]
         ensures { result.now ≡ self.now }
     {
         &self.entries

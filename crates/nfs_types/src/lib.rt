@@ -4,6 +4,7 @@
 
 mod attributes;
 mod call;
+mod call_facts;
 mod ctx;
 mod entries;
 mod handle;
@@ -19,8 +20,9 @@ pub use attributes::{
 };
 pub use base::{Pieces, SharedOctets};
 pub use call::{Call, CreateHow, DirectoryName, SpecialFile, Stability};
+pub use call_facts::CallFacts;
 pub use ctx::{Credential, Ctx, Moment};
-pub use entries::{ListedEntries, ListedEntriesPlus, ListedEntry, ListedEntryPlus};
+pub use entries::{ListedEntries, ListedEntriesPlus, ListedItem, ListedItemPlus};
 pub use handle::{Handle, Stamp};
 pub use mount::{MountCall, MountReply, Mounted, PATH_BYTES};
 pub use octets::{NumberList, Octets};
@@ -28,8 +30,8 @@ pub use program::{
     MountProcedure, Procedure, Program, ProgramCall, ProgramProcedure, ProgramReply,
 };
 pub use reply::{
-    Created, FileSystemInfo, FileSystemSpace, Listed, ListedPlus, Looked, PathLimits, ReadBytes,
-    Reply, Written,
+    Created, FileSystemInfo, FileSystemSpace, Listed, ListedPlus, LookupResult, PathLimits,
+    ReadBytes, Reply, Written,
 };
 pub use status::Status;
 pub use verifier::{VERIFIER_BYTES, Verifier};

@@ -12,7 +12,7 @@ use std::alloc::AllocError;
 
 /// What LOOKUP found.
 #[derive(Clone, Drop)]
-pub struct Looked {
+pub struct LookupResult {
     pub object: Handle,
     pub attributes: Option<Attributes>,
 }
@@ -107,7 +107,7 @@ pub enum Reply {
         object: WeakCacheData,
     },
     Lookup {
-        outcome: Result<Looked, Status>,
+        outcome: Result<LookupResult, Status>,
         directory: Option<Attributes>,
     },
     Access {
@@ -268,7 +268,7 @@ impl Clone for Reply {
 
 // A copy of what LOOKUP found.
 fn copied_lookup(
-    outcome: &Result<Looked, Status>,
+    outcome: &Result<LookupResult, Status>,
     directory: Option<Attributes>,
 ) -> Result<Reply, AllocError>
     ensures { IfOk result (λ copy. copy ≡ replies.Lookup outcome.now directory) }

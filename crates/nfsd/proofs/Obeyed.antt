@@ -13,20 +13,20 @@ use Rattle.layout.specs.Geometry.{data_at}
 use Rattle.store_images.specs.Formatting.{HasFormatted}
 use Rattle.nfs_types.specs.declared.ctx.Moment.{Moment}
 use Rattle.session.specs.Serving.{Client, HasServed, client_of}
-use Rattle.session.specs.declared.serving.SessionFault.{SessionFault}
+use Rattle.session.specs.declared.stream.SessionFault.{SessionFault}
 use Rattle.store_images.specs.Opening.{HasOpened, Opened}
-use Rattle.pool.specs.declared.ending.Ended.{Ended}
+use Rattle.pool.specs.declared.shutdown.Ended.{Ended}
 use Rattle.server.specs.declared.threads.ServeFault.{ServeFault}
 use Rattle.server.specs.declared.threads.ServeFault.TheVariants as server
 use Rattle.nfsd.specs.declared.fault.Fault.{Fault}
 use Rattle.nfsd.specs.declared.fault.Fault.TheVariants as fault
 use Rattle.nfsd.specs.Done.{Answers, DoesCommand, FormatsDevice, FormatsImage, IsWithoutMemory, Obeys, Outcome}
-use Rattle.nfsd.specs.Done.{ServesClients, ServesDevice, ServesImage, ServesImageOnce, TellsOutcome, Told}
+use Rattle.nfsd.specs.Done.{ServesClients, ServesDevice, ServesImage, ServesImageOnce, TellsOutcome, FaultReports}
 use Rattle.nfsd.specs.Done.{formatted_line, left_of_server, moment_at, outcome_of_server}
 use Rattle.nfsd.specs.Faults.{status_of_outcome}
 use Rattle.nfsd.specs.Left.{Left, nothing_left}
 use Rattle.nfsd.specs.Lines.{IsAnnouncedBy}
-use Rattle.nfsd.specs.Looked.{ChecksImage, ShowsImage}
+use Rattle.nfsd.specs.ImageScans.{ChecksImage, ShowsImage}
 use Rattle.nfsd.specs.Scripts.{RunsScript}
 
 -- the command that was asked for was done, so the arguments were obeyed
@@ -134,7 +134,7 @@ pub formats_command : (first : FirstContents) (image : Bor Text) (blocks : Optio
     (outcome : Outcome) (device : Left) (later : Client) → later.unread ≡ client.unread
     → FormatsImage first image.now blocks inodes time client.written outcome device later.written
     → DoesCommand first (Format image blocks inodes time) client outcome device later
-formats_command first image blocks inodes time client (Err (fault.File trouble)) device later unread formats =
+formats_command first image blocks inodes time client (Err (fault.File io_report)) device later unread formats =
     (same_client client later unread formats.0, formats.1, inl formats.2)
 formats_command first image blocks inodes time client outcome device later unread formats = (unread, formats)
 
@@ -142,7 +142,7 @@ formats_command first image blocks inodes time client outcome device later unrea
 pub serves_command : (first : FirstContents) (image : Bor Text) (time : ℕ) (client : Client) (outcome : Outcome)
     (device : Left) (later : Client) → ServesImageOnce first image.now time client outcome device later
     → DoesCommand first (Once image time) client outcome device later
-serves_command first image time client (Err (fault.File trouble)) device later serves =
+serves_command first image time client (Err (fault.File io_report)) device later serves =
     (serves.0, serves.1, inl serves.2)
 serves_command first image time client outcome device later serves = serves
 
@@ -150,7 +150,7 @@ pub listens_command : (first : FirstContents) (image listen : Bor Text) (workers
     (outcome : Outcome) (device : Left) (later : Client) → later.unread ≡ client.unread
     → ServesImage first image.now listen.now client.written outcome device later.written
     → DoesCommand first (Serve image listen workers connections) client outcome device later
-listens_command first image listen workers connections client (Err (fault.File trouble)) device later unread serves =
+listens_command first image listen workers connections client (Err (fault.File io_report)) device later unread serves =
     (same_client client later unread serves.0, serves.1, inl serves.2)
 listens_command first image listen workers connections client outcome device later unread serves = (unread, serves)
 
@@ -159,7 +159,7 @@ pub checks_command : (first : FirstContents) (image : Bor Text) (client : Client
     (later : Client) → later.unread ≡ client.unread
     → ChecksImage first image.now client.written outcome device later.written
     → DoesCommand first (Check image) client outcome device later
-checks_command first image client (Err (fault.File trouble)) device later unread checks =
+checks_command first image client (Err (fault.File io_report)) device later unread checks =
     (same_client client later unread checks.0, checks.1, inl checks.2)
 checks_command first image client outcome device later unread checks = (unread, checks)
 
@@ -167,7 +167,7 @@ pub shows_command : (first : FirstContents) (image : Bor Text) (client : Client)
     (later : Client) → later.unread ≡ client.unread
     → ShowsImage first image.now client.written outcome device later.written
     → DoesCommand first (Show image) client outcome device later
-shows_command first image client (Err (fault.File trouble)) device later unread shows =
+shows_command first image client (Err (fault.File io_report)) device later unread shows =
     (same_client client later unread shows.0, shows.1, inl shows.2)
 shows_command first image client outcome device later unread shows = (unread, shows)
 
@@ -176,7 +176,7 @@ pub runs_command : (first : FirstContents) (script : Bor Text) (stops : Bool) (c
     (later : Client) → device ≡ nothing_left → later.unread ≡ client.unread
     → RunsScript stops script.now client.written outcome later.written
     → DoesCommand first (Sim script stops) client outcome device later
-runs_command first script stops client (Err (fault.File trouble)) device later none unread runs =
+runs_command first script stops client (Err (fault.File io_report)) device later none unread runs =
     (same_client client later unread runs.0, none, inl runs.1)
 runs_command first script stops client outcome device later none unread runs = (none, unread, runs)
 
@@ -197,20 +197,20 @@ obeys_none first words client (Err fault.Memory) device later obeys none = inr r
 obeys_none first words client (Err (fault.Words e)) device later obeys none = inl refl
 obeys_none first words client outcome device later obeys none = absurd (none (obeys.0, obeys.1))
 
-module _ {first : FirstContents} {words : List Text} {client : Client} {told : Told}
-    {written : Option (List ℕ)} {status : ℕ} {device : Left} {later : Client} {told' : Told}
+module _ {first : FirstContents} {words : List Text} {client : Client} {reports : FaultReports}
+    {written : Option (List ℕ)} {status : ℕ} {device : Left} {later : Client} {reports' : FaultReports}
     {written' : Option (List ℕ)} where
-  pub refused : Answers first words client told written status device later told' written' → status ≡ 2
+  pub refused : Answers first words client reports written status device later reports' written' → status ≡ 2
       → ¬ HasMeaning words
   refused answers two =
       obeys_two first words client answers.outcome device later answers.obeys (sym answers.ends ∙ two)
 
-  pub refuses : Answers first words client told written status device later told' written' → ¬ HasMeaning words
-      → (status ≡ 2) ⊎ IsWithoutMemory told written status told' written'
+  pub refuses : Answers first words client reports written status device later reports' written' → ¬ HasMeaning words
+      → (status ≡ 2) ⊎ IsWithoutMemory reports written status reports' written'
   refuses answers none = elim (obeys_none first words client answers.outcome device later answers.obeys none) [
     | inl two ↦ inl (answers.ends ∙ two)
     | inr memory ↦ inr (record {
       ends = answers.ends ∙ ap status_of_outcome memory;
-      tells = subst (λ (o : Outcome). TellsOutcome told written o told' written') memory answers.tells;
+      tells = subst (λ (o : Outcome). TellsOutcome reports written o reports' written') memory answers.tells;
     })
   ]

@@ -3,12 +3,12 @@ use Rattle.std.proofs.Common.{◌≡◌, ℕ, List, Option, Result, Ok, Err, sub
 use Rattle.std.specs.Prelude.{IfErr, OnOk}
 use Rattle.std.specs.Io.KnownBytes.{Appends}
 use Rattle.disk.specs.Device.{Device}
-use Rattle.image_check.specs.declared.judging.Counts.{Counts}
+use Rattle.image_check.specs.declared.judgement.Counts.{Counts}
 use Rattle.image_contents.specs.declared.lines.line.Line.{Line}
 use Rattle.image_contents.specs.Lines.Printed.{lines_text}
 use Rattle.nfsd.specs.declared.fault.Fault.{Fault}
 use Rattle.nfsd.specs.declared.fault.Fault.TheVariants as fault
-use Rattle.nfsd.specs.Looked.{ChecksDevice, IsCheckOf, IsShowOf, ShowsDevice, clean_line}
+use Rattle.nfsd.specs.ImageScans.{ChecksDevice, IsCheckOf, IsShowOf, ShowsDevice, clean_line}
 
 module _ (keeps_model : Type 0) (old new : Device) (written later : Option (List ℕ)) where
   -- its counts were printed

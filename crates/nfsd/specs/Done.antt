@@ -18,16 +18,16 @@ use Rattle.layout.specs.Geometry.{data_at}
 use Rattle.store_images.specs.Formatting.{HasFormatted}
 use Rattle.store_images.specs.Opening.{HasOpened, Opened}
 use Rattle.session.specs.Serving.{Client, HasServed}
-use Rattle.pool.specs.declared.ending.Ended.{Ended}
+use Rattle.pool.specs.declared.shutdown.Ended.{Ended}
 use Rattle.server.specs.declared.threads.ServeFault.{ServeFault}
 use Rattle.server.specs.declared.threads.ServeFault.TheVariants as server
-use Rattle.session.specs.declared.serving.SessionFault.TheVariants as session
+use Rattle.session.specs.declared.stream.SessionFault.TheVariants as session
 use Rattle.nfsd.specs.declared.fault.Fault.{Fault}
 use Rattle.nfsd.specs.declared.fault.Fault.TheVariants as fault
 use Rattle.nfsd.specs.Faults.{IsAbout, as_line, fault_line, status_of_outcome}
 use Rattle.nfsd.specs.Left.{Left, nothing_left, with_core, with_device}
 use Rattle.nfsd.specs.Lines.{listening_line}
-use Rattle.nfsd.specs.Looked.{ChecksImage, ShowsImage}
+use Rattle.nfsd.specs.ImageScans.{ChecksImage, ShowsImage}
 use Rattle.nfsd.specs.Scripts.{RunsScript}
 
 -- what came of the program: it is done, or there is a fault
@@ -117,25 +117,25 @@ AreAsked (Some asked) size = size ≡ asked
 
 -- `format` of an image's file: what lies there was made an image; or it can't be had, and nothing was printed
 abbrev pub FormatsImage : FirstContents → Text → Option ℕ → ℕ → ℕ → Option (List ℕ) → Outcome → Left → Option (List ℕ) → Type 0
-FormatsImage first image blocks inodes time written (Err (fault.File trouble)) left written' =
-    (written' ≡ written) × (left ≡ nothing_left) × IsAbout trouble image
+FormatsImage first image blocks inodes time written (Err (fault.File io_report)) left written' =
+    (written' ≡ written) × (left ≡ nothing_left) × IsAbout io_report image
 FormatsImage first image blocks inodes time written outcome left written' = (size : ℕ) × (new : Device)
     × AreAsked blocks size × (left ≡ with_device new)
     × FormatsDevice (device_of first size) inodes time written outcome new written'
 
 -- `once` of an image's file; or it can't be had, and nothing was read or printed
 abbrev pub ServesImageOnce : FirstContents → Text → ℕ → Client → Outcome → Left → Client → Type 0
-ServesImageOnce first image time client (Err (fault.File trouble)) left later =
-    (later ≡ client) × (left ≡ nothing_left) × IsAbout trouble image
+ServesImageOnce first image time client (Err (fault.File io_report)) left later =
+    (later ≡ client) × (left ≡ nothing_left) × IsAbout io_report image
 ServesImageOnce first image time client outcome left later = (size : ℕ) × (new : Device)
     × (left ≡ with_device new) × ServesDevice (device_of first size) time client outcome new later
 
 -- `serve` of an image's file at an address; or one of them can't be had, and nothing was printed
 abbrev pub ServesImage : FirstContents → Text → Text → Option (List ℕ) → Outcome → Left → Option (List ℕ) → Type 0
-ServesImage first image listen written (Err (fault.File trouble)) left written' =
-    (written' ≡ written) × (left ≡ nothing_left) × IsAbout trouble image
-ServesImage first image listen written (Err (fault.Address trouble)) left written' =
-    (written' ≡ written) × (left ≡ nothing_left) × IsAbout trouble listen
+ServesImage first image listen written (Err (fault.File io_report)) left written' =
+    (written' ≡ written) × (left ≡ nothing_left) × IsAbout io_report image
+ServesImage first image listen written (Err (fault.Address io_report)) left written' =
+    (written' ≡ written) × (left ≡ nothing_left) × IsAbout io_report listen
 ServesImage first image listen written outcome left written' = (size : ℕ)
     × ServesClients (device_of first size) written outcome left written'
 
@@ -152,8 +152,8 @@ image_of (Sim script stops) = script.now
 -- is handed back as that left it, but for a device that was served from; or a script was run; or there is no
 -- device, and the fault is that of the file, of what closed streams are filled from, or of the address.
 abbrev pub DoesCommand : FirstContents → Args → Client → Outcome → Left → Client → Type 0
-DoesCommand first args client (Err (fault.File trouble)) left later = (later ≡ client) × (left ≡ nothing_left)
-    × (IsAbout trouble (image_of args) ⊎ IsAbout trouble (codes "/dev/null"))
+DoesCommand first args client (Err (fault.File io_report)) left later = (later ≡ client) × (left ≡ nothing_left)
+    × (IsAbout io_report (image_of args) ⊎ IsAbout io_report (codes "/dev/null"))
 DoesCommand first (Format image blocks inodes time) client outcome left later = (later.unread ≡ client.unread)
     × FormatsImage first image.now blocks inodes time client.written outcome left later.written
 DoesCommand first (Once image time) client outcome left later =
@@ -179,32 +179,32 @@ Obeys first words client outcome left later = (args : Args) × WordsAsk words ar
     × DoesCommand first args client outcome left later
 
 -- the faults that were told on a stream, each with the stream's answer
-abbrev pub Told : Type 0
-Told = List (Fault × Result (Unit {0}) Error)
+abbrev pub FaultReports : Type 0
+FaultReports = List (Fault × Result (Unit {0}) Error)
 
 -- a fault was told: its line was written, where the stream answered Ok, and nothing else
-abbrev pub TellsFault : Told → Option (List ℕ) → Fault → Told → Option (List ℕ) → Type 0
-TellsFault told written why told' written' = (answer : Result (Unit {0}) Error)
-    × (told' ≡ told ++ (why, answer) ∷ [])
+abbrev pub TellsFault : FaultReports → Option (List ℕ) → Fault → FaultReports → Option (List ℕ) → Type 0
+TellsFault reports written why reports' written' = (answer : Result (Unit {0}) Error)
+    × (reports' ≡ reports ++ (why, answer) ∷ [])
     × OnOk answer (IfSome (fault_line why) (Appends written written'))
 
 -- a fault was told, or there was none and nothing was
-abbrev pub TellsOutcome : Told → Option (List ℕ) → Outcome → Told → Option (List ℕ) → Type 0
-TellsOutcome told written (Ok done) told' written' = (told' ≡ told) × (written' ≡ written)
-TellsOutcome told written (Err why) told' written' = TellsFault told written why told' written'
+abbrev pub TellsOutcome : FaultReports → Option (List ℕ) → Outcome → FaultReports → Option (List ℕ) → Type 0
+TellsOutcome reports written (Ok done) reports' written' = (reports' ≡ reports) × (written' ≡ written)
+TellsOutcome reports written (Err why) reports' written' = TellsFault reports written why reports' written'
 
 -- what the program answers its arguments, where the image's file held this: it obeyed them, which left the
 -- device so, told what came of it, and ended with its status
-pub record Answers (first : FirstContents) (words : List Text) (client : Client) (told : Told)
-    (written : Option (List ℕ)) (status : ℕ) (left : Left) (later : Client) (told' : Told)
+pub record Answers (first : FirstContents) (words : List Text) (client : Client) (reports : FaultReports)
+    (written : Option (List ℕ)) (status : ℕ) (left : Left) (later : Client) (reports' : FaultReports)
     (written' : Option (List ℕ)) : Type 0 where
   pub outcome : Outcome
   pub obeys : Obeys first words client outcome left later
   pub ends : status ≡ status_of_outcome outcome
-  pub tells : TellsOutcome told written outcome told' written'
+  pub tells : TellsOutcome reports written outcome reports' written'
 
 -- there was no memory to read the arguments, which was told, with status 1
-pub record IsWithoutMemory (told : Told) (written : Option (List ℕ)) (status : ℕ) (told' : Told)
+pub record IsWithoutMemory (reports : FaultReports) (written : Option (List ℕ)) (status : ℕ) (reports' : FaultReports)
     (written' : Option (List ℕ)) : Type 0 where
   pub ends : status ≡ 1
-  pub tells : TellsFault told written fault.Memory told' written'
+  pub tells : TellsFault reports written fault.Memory reports' written'

@@ -7,10 +7,10 @@ use Rattle.std.specs.declared.io.ErrorKind.TheVariants as io_kind
 use Rattle.clap.specs.Words.{kind_of}
 use Rattle.clap.specs.declared.error.Error.{Error}
 use Rattle.clap.specs.declared.error.kind.ErrorKind.TheVariants as kind
-use Rattle.session.specs.declared.serving.SessionFault.{SessionFault}
-use Rattle.session.specs.declared.serving.SessionFault.TheVariants as session
-use Rattle.store_images.specs.declared.formatting.FormatFault.{FormatFault}
-use Rattle.store_images.specs.declared.formatting.FormatFault.TheVariants as format
+use Rattle.session.specs.declared.stream.SessionFault.{SessionFault}
+use Rattle.session.specs.declared.stream.SessionFault.TheVariants as session
+use Rattle.store_images.specs.declared.formatter.FormatFault.{FormatFault}
+use Rattle.store_images.specs.declared.formatter.FormatFault.TheVariants as format
 use Rattle.store_promise.specs.declared.fault.OpenFault.{OpenFault}
 use Rattle.store_promise.specs.declared.fault.OpenFault.TheVariants as opening
 use Rattle.image_check.specs.declared.fault.CheckFault.{CheckFault}
@@ -18,9 +18,9 @@ use Rattle.image_check.specs.declared.fault.CheckFault.TheVariants as checking
 use Rattle.image_check.specs.declared.fault.Unlinked.{Unlinked}
 use Rattle.nfsd.specs.declared.fault.Fault.{Fault}
 use Rattle.nfsd.specs.declared.fault.Fault.TheVariants as fault
-use Rattle.nfsd.specs.declared.trouble.Reason.{Reason}
-use Rattle.nfsd.specs.declared.trouble.Reason.TheVariants as reason
-use Rattle.nfsd.specs.declared.trouble.Trouble.{Trouble}
+use Rattle.nfsd.specs.declared.io_report.Reason.{Reason}
+use Rattle.nfsd.specs.declared.io_report.Reason.TheVariants as reason
+use Rattle.nfsd.specs.declared.io_report.IoReport.{IoReport}
 
 -- a text as a line of its own
 abbrev pub as_line : List ℕ → List ℕ
@@ -83,8 +83,8 @@ reason_of_file error = elim (error_kind error) [
   | io_kind.InvalidInput ↦ reason.NoFile
   | io_kind.WouldBlock ↦ reason.Held
   | io_kind.ReadOnlyFilesystem ↦ reason.ReadOnly
-  | io_kind.StorageFull ↦ reason.NoRoom
-  | io_kind.QuotaExceeded ↦ reason.NoRoom
+  | io_kind.StorageFull ↦ reason.NoSpace
+  | io_kind.QuotaExceeded ↦ reason.NoSpace
   | io_kind.FileTooLarge ↦ reason.TooLarge
   | io_kind.InvalidFilename ↦ reason.BadName
   | io_kind.OutOfMemory ↦ reason.NoMemory
@@ -112,7 +112,7 @@ reason_text reason.NoDirectory = codes "a part of its path is no directory"
 reason_text reason.NoFile = codes "it is neither a file nor a block device"
 reason_text reason.Held = codes "another program has it"
 reason_text reason.ReadOnly = codes "it can only be read here"
-reason_text reason.NoRoom = codes "there is no room for it"
+reason_text reason.NoSpace = codes "there is no room for it"
 reason_text reason.TooLarge = codes "it can't have so many blocks"
 reason_text reason.BadName = codes "its name is too long"
 reason_text reason.PortTaken = codes "another program has the port"
@@ -123,20 +123,20 @@ reason_text reason.NoMemory = codes "there is no memory"
 reason_text reason.Other = codes "the system refuses it"
 
 -- what is told of a file or an address is of this name, where anything is told
-abbrev pub IsAbout : Option Trouble → List ℕ → Type 0
-IsAbout trouble name = IfSome trouble (λ it. string_bytes it.name ≡ name)
+abbrev pub IsAbout : Option IoReport → List ℕ → Type 0
+IsAbout io_report name = IfSome io_report (λ it. string_bytes it.name ≡ name)
 
 -- the second line of a fault, `nfsd: NAME: REASON`, where a file or an address is known that can't be had
-abbrev pub trouble_line : Option Trouble → List ℕ
-trouble_line None = []
-trouble_line (Some it) = as_line (codes "nfsd: " ++ string_bytes it.name ++ codes ": " ++ reason_text it.reason)
+abbrev pub io_report_line : Option IoReport → List ℕ
+io_report_line None = []
+io_report_line (Some it) = as_line (codes "nfsd: " ++ string_bytes it.name ++ codes ": " ++ reason_text it.reason)
 
 -- The line of a fault, or its two lines; of arguments that don't parse their parser tells.
 abbrev pub fault_line : Fault → Option (List ℕ)
 fault_line fault.NotText = Some (as_line (codes "nfsd: arguments"))
 fault_line fault.Memory = Some (as_line (codes "nfsd: memory"))
 fault_line (fault.Words error) = None
-fault_line (fault.File trouble) = Some (as_line (codes "nfsd: file") ++ trouble_line trouble)
+fault_line (fault.File io_report) = Some (as_line (codes "nfsd: file") ++ io_report_line io_report)
 fault_line (fault.Format why) = Some (format_line why)
 fault_line (fault.Open why) = Some (open_line why)
 fault_line (fault.Check why) = Some (check_line why ++ second_line why)
@@ -144,7 +144,7 @@ fault_line (fault.Session why) = Some (session_line why)
 fault_line fault.Print = Some (as_line (codes "nfsd: output"))
 fault_line (fault.Line number) = Some (as_line (codes "nfsd: line " ++ decimal number))
 fault_line (fault.Torn text) = Some (as_line (codes "nfsd: 1 Torn") ++ as_line (codes "nfsd: " ++ string_bytes text))
-fault_line (fault.Address trouble) = Some (as_line (codes "nfsd: address") ++ trouble_line trouble)
+fault_line (fault.Address io_report) = Some (as_line (codes "nfsd: address") ++ io_report_line io_report)
 
 -- 2 where the arguments aren't text or don't parse, and 1 at every other fault
 abbrev pub status_of : Fault → ℕ

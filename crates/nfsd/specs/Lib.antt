@@ -2,5 +2,5 @@ pub mod Done
 pub mod Faults
 pub mod Lines
 pub mod Left
-pub mod Looked
+pub mod ImageScans
 pub mod Scripts

@@ -2,7 +2,7 @@
 use Rattle.std.specs.Prelude.{◌≡◌, ℕ, Bool, true, false, List, [], ◌∷◌, ◌++◌, Option, Result, Ok, Err, codes}
 use Rattle.std.specs.Fmt.{decimal}
 use Rattle.std.specs.Io.KnownBytes.{Appends}
-use Rattle.session.specs.declared.serving.SessionFault.TheVariants as session
+use Rattle.session.specs.declared.stream.SessionFault.TheVariants as session
 use Rattle.sim.specs.Simulated.{IsPlayed, Prints}
 use Rattle.sim.specs.declared.fault.SimFault.{SimFault}
 use Rattle.sim.specs.declared.fault.SimFault.TheVariants as sim
@@ -69,5 +69,5 @@ RunsText false text written outcome written' = PlaysText text written outcome wr
 
 -- or the file of this name couldn't be read, and nothing was printed
 abbrev pub RunsScript : Bool → List ℕ → Option (List ℕ) → Result (Unit {0}) Fault → Option (List ℕ) → Type 0
-RunsScript stops path written (Err (fault.File trouble)) written' = (written' ≡ written) × IsAbout trouble path
+RunsScript stops path written (Err (fault.File io_report)) written' = (written' ≡ written) × IsAbout io_report path
 RunsScript stops path written outcome written' = (text : List ℕ) × RunsText stops text written outcome written'

@@ -14,13 +14,13 @@ impl<O: Write> Announcer for Announcement<'_, '_, O> {
     ghost use Rattle.std.specs.Io.KnownBytes.{Appends};
     ghost use Rattle.nfsd.specs.Lines.{listening_line};
 
-    ghost tells = { λ before is_told after. (after.writer.ghost_name ≡ before.writer.ghost_name)
-        × (is_told ≡ true → Appends (O.contents before.writer.now) (O.contents after.writer.now)
+    ghost tells = { λ before is_announced after. (after.writer.ghost_name ≡ before.writer.ghost_name)
+        × (is_announced ≡ true → Appends (O.contents before.writer.now) (O.contents after.writer.now)
         (listening_line before.address.now)) };
 
     fn announce(self) -> (Self, bool) {
         let Announcement { writer, address } = self;
-        let is_told = writeln!(writer, "listening {address}").is_ok();
-        (Announcement { writer, address }, is_told)
+        let is_announced = writeln!(writer, "listening {address}").is_ok();
+        (Announcement { writer, address }, is_announced)
     }
 }

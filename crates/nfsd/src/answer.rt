@@ -12,12 +12,12 @@ use crate::device::{format_image, serve_image_once};
 use crate::fault::Fault;
 use crate::fault_stream::FaultStream;
 use crate::image_disk::ImageDisk;
-use crate::looking::{check_image, show_image};
+use crate::image_scans::{check_image, show_image};
+use crate::io_report::IoReport;
 use crate::read_files::SharedFile;
 use crate::scripts::run_script;
 use crate::streams::{Streams, fill};
 use crate::tcp::serve_image;
-use crate::trouble::Trouble;
 use disk_file::{Alarm, BlockFile, FirstContents, WatchedFile};
 use nfsd_words::{Args, words};
 use session::{Input, Output};
@@ -31,8 +31,8 @@ use std::time::Clock;
 /// Tells a fault on `faults`, where that can be done, and gives the exit status.
 pub fn conclude<E: Write>(faults: &mut FaultStream<E>, outcome: &Result<(), Fault>) -> u8
     ensures status { result ≡ status_of_outcome outcome.now }
-    ensures told { TellsOutcome faults.old.told.items (E.contents faults.old.stream) outcome.now
-        faults.new.told.items (E.contents faults.new.stream) }
+    ensures reports { TellsOutcome faults.old.reports.items (E.contents faults.old.stream) outcome.now
+        faults.new.reports.items (E.contents faults.new.stream) }
 {
     let Err(fault) = outcome else {
         return 0;
@@ -70,13 +70,13 @@ where
     E: Write,
     ensures answers { Answers first (map (λ word. word.now) line.now)
         (client_of (unread_of I.remaining reader.old) (written_of O.contents writer.old))
-        faults.old.told.items (E.contents faults.old.stream) result.0 (left_by result.1)
+        faults.old.reports.items (E.contents faults.old.stream) result.0 (left_by result.1)
         (client_of (unread_of I.remaining reader.new) (written_of O.contents writer.new))
-        faults.new.told.items (E.contents faults.new.stream) }
+        faults.new.reports.items (E.contents faults.new.stream) }
     ensures refused { result.0 ≡ 2 → ¬ HasMeaning (map (λ word. word.now) line.now) }
     ensures refuses { (¬ HasMeaning (map (λ word. word.now) line.now)) → (result.0 ≡ 2)
-        ⊎ IsWithoutMemory faults.old.told.items (E.contents faults.old.stream) result.0
-        faults.new.told.items (E.contents faults.new.stream) }
+        ⊎ IsWithoutMemory faults.old.reports.items (E.contents faults.old.stream) result.0
+        faults.new.reports.items (E.contents faults.new.stream) }
 {
     let (disk, outcome) = obey(rt, alarm, line, first, reader, writer);
     (conclude(faults, &outcome), disk)
@@ -119,8 +119,8 @@ where
     let _fillers = match fill(rt) {
         Ok(fillers) => fillers,
         Err(error) => {
-            let trouble = Trouble::of_file(rt.alloc(), "/dev/null", &error);
-            return (None, Err(Fault::File(trouble)));
+            let io_report = IoReport::of_file(rt.alloc(), "/dev/null", &error);
+            return (None, Err(Fault::File(io_report)));
         }
     };
     command(rt, alarm, args, first, reader, writer)

@@ -11,8 +11,8 @@ ghost use Rattle.nfsd.specs.Done.{formatted_line, moment_at};
 
 use crate::fault::Fault;
 use crate::image_disk::ImageDisk;
+use crate::io_report::IoReport;
 use crate::locked_files::{make_image, open_image};
-use crate::trouble::Trouble;
 use disk::CrashDisk;
 use disk_file::{BlockFile, FirstContents};
 use nfs_types::Moment;
@@ -44,8 +44,8 @@ where
     let made = match make_image(rt, image, blocks) {
         Ok(made) => made,
         Err(error) => {
-            let trouble = Trouble::of_file(rt.alloc(), image, &error);
-            return (None, Err(Fault::File(trouble)));
+            let io_report = IoReport::of_file(rt.alloc(), image, &error);
+            return (None, Err(Fault::File(io_report)));
         }
     };
     let mut disk = made.beginning_with(first);
@@ -75,8 +75,8 @@ where
     let opened = match open_image(rt, image) {
         Ok(opened) => opened,
         Err(error) => {
-            let trouble = Trouble::of_file(rt.alloc(), image, &error);
-            return (None, Err(Fault::File(trouble)));
+            let io_report = IoReport::of_file(rt.alloc(), image, &error);
+            return (None, Err(Fault::File(io_report)));
         }
     };
     let disk = opened.beginning_with(first);

@@ -2,8 +2,8 @@
 ghost use Rattle.std.specs.Prelude.{◌≡◌};
 ghost use Rattle.nfsd.specs.Faults.{fault_of_reading, fault_of_words, status_of};
 
+use crate::io_report::IoReport;
 use crate::lines::{check_line, format_line, open_line, session_line};
-use crate::trouble::Trouble;
 use clap::error::ErrorKind;
 use session::SessionFault;
 use std::{fmt, io};
@@ -20,7 +20,7 @@ pub enum Fault {
     Words(clap::Error),
     /// The image's file can't be made, opened, locked, given its length or settled, or a closed stream's
     /// descriptor can't be taken: which of them, and why.
-    File(Option<Trouble>),
+    File(Option<IoReport>),
     /// The image can't be made.
     Format(FormatFault),
     /// The image can't be opened, or its files can't be shown.
@@ -32,7 +32,7 @@ pub enum Fault {
     /// The line of the answer can't be printed.
     Print,
     /// The address can't be had: which, and why.
-    Address(Option<Trouble>),
+    Address(Option<IoReport>),
     /// The script's first bad line: its number, from 1.
     Line(usize),
     /// A stop of the script leaves what it may not leave: where, and what differs.

@@ -8,7 +8,7 @@ use std::io::{self, Write};
 #[derive(Drop)]
 pub struct FaultStream<E> {
     stream: E,
-    told: Log<Fault, io::Result<()>>,
+    reports: Log<Fault, io::Result<()>>,
 }
 
 impl<E: Write> FaultStream<E> {
@@ -18,20 +18,20 @@ impl<E: Write> FaultStream<E> {
     /// A stream that nothing was told on.
     pub fn new(stream: E) -> FaultStream<E>
         ensures stream { result.stream ≡ stream }
-        ensures told { result.told.items ≡ [] }
+        ensures reports { result.reports.items ≡ [] }
     {
         FaultStream {
             stream,
-            told: Log::new(),
+            reports: Log::new(),
         }
     }
 
     /// Tells a fault by its text. Where the stream doesn't take it, that alone is lost.
     pub fn tell(&mut self, fault: &Fault)
-        ensures { TellsFault self.old.told.items (E.contents self.old.stream) fault.now
-            self.new.told.items (E.contents self.new.stream) }
+        ensures { TellsFault self.old.reports.items (E.contents self.old.stream) fault.now
+            self.new.reports.items (E.contents self.new.stream) }
     {
         let answer = write!(self.stream, "{fault}");
-        self.told = self.told.and(fault, &answer);
+        self.reports = self.reports.and(fault, &answer);
     }
 }

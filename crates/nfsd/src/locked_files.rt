@@ -75,7 +75,7 @@ pub fn blocks_in<R: Files>(rt: &R, path: &str, file: &mut R::File) -> io::Result
 // Whether a block device has this name.
 fn is_block_device<R: Files>(rt: &R, path: &str) -> bool {
     match rt.metadata(path) {
-        Ok(told) => told.file_type().is_block_device(),
+        Ok(file_facts) => file_facts.file_type().is_block_device(),
         Err(_) => false,
     }
 }

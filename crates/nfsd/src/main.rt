@@ -9,15 +9,15 @@ mod device;
 mod fault;
 mod fault_stream;
 mod image_disk;
+mod image_scans;
+mod io_report;
 mod lines;
 mod locked_files;
-mod looking;
 mod progress_lines;
 mod read_files;
 mod scripts;
 mod streams;
 mod tcp;
-mod trouble;
 mod watched_image;
 
 use crate::answer::{answer, conclude};

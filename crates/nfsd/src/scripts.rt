@@ -5,9 +5,9 @@ ghost use Rattle.nfsd.specs.Scripts.{PlaysText, RunsScript, TriesText, fault_of_
 ghost use Rattle.nfsd.specs.Scripts.{stops_line};
 
 use crate::fault::Fault;
+use crate::io_report::IoReport;
 use crate::progress_lines::ProgressLines;
 use crate::streams::Streams;
-use crate::trouble::Trouble;
 use session::SessionFault;
 use sim::{SimFault, simulate};
 use sim_stops::{StopsFault, Tried, try_stops};
@@ -33,7 +33,7 @@ where
             }
             play(rt.alloc(), &text, writer)
         }
-        Err(error) => Err(Fault::File(Trouble::of_file(rt.alloc(), path, &error))),
+        Err(error) => Err(Fault::File(IoReport::of_file(rt.alloc(), path, &error))),
     }
 }
 

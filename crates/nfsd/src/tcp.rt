@@ -9,7 +9,7 @@ ghost use Rattle.nfsd.specs.Faults.{IsAbout};
 use crate::announcement::Announcement;
 use crate::fault::Fault;
 use crate::image_disk::ImageDisk;
-use crate::trouble::Trouble;
+use crate::io_report::IoReport;
 use crate::watched_image::open_for_threads;
 use disk_file::{Alarm, BlockFile, FirstContents, ThreadedDisk, WatchedFile};
 use server::{Ended, ServeFault, serve_store};
@@ -32,18 +32,18 @@ pub struct Listening {
 }
 
 /// Listens at an address. Of one that can't be had, or told, it says why, but for want of memory.
-pub fn listen_at<R>(rt: &R, alloc: Global, address: &str) -> Result<Listening, Option<Trouble>>
+pub fn listen_at<R>(rt: &R, alloc: Global, address: &str) -> Result<Listening, Option<IoReport>>
 where
     R: Net<Listener = TcpListener, Stream = TcpStream>,
-    ensures { IfErr result (λ trouble. IsAbout trouble address.now) }
+    ensures { IfErr result (λ io_report. IsAbout io_report address.now) }
 {
     let listener = match TcpListener::bind(rt, address) {
         Ok(listener) => listener,
-        Err(error) => return Err(Trouble::of_address(alloc, address, &error)),
+        Err(error) => return Err(IoReport::of_address(alloc, address, &error)),
     };
     let bound = match listener.local_addr() {
         Ok(bound) => bound,
-        Err(error) => return Err(Trouble::of_address(alloc, address, &error)),
+        Err(error) => return Err(IoReport::of_address(alloc, address, &error)),
     };
     match format!(in alloc; "{bound}") {
         Ok(address) => Ok(Listening { listener, address }),
@@ -82,13 +82,13 @@ where
 {
     let listening = match listen_at(rt, rt.alloc(), listen) {
         Ok(listening) => listening,
-        Err(trouble) => return (None, Err(Fault::Address(trouble))),
+        Err(io_report) => return (None, Err(Fault::Address(io_report))),
     };
     let opened = match open_for_threads(rt, image, alarm) {
         Ok(opened) => opened,
         Err(error) => {
-            let trouble = Trouble::of_file(rt.alloc(), image, &error);
-            return (None, Err(Fault::File(trouble)));
+            let io_report = IoReport::of_file(rt.alloc(), image, &error);
+            return (None, Err(Fault::File(io_report)));
         }
     };
     let disk = opened.beginning_with(first);
@@ -154,7 +154,7 @@ where
     O: Write,
     ensures boot { IfOk ended.new (λ core. core.core.boot ≡ store.core.boot) }
     ensures same_reference { result.ghost_name ≡ writer.entry.ghost_name }
-    ensures told { IsAnnouncedBy (O.contents writer.old) (string_bytes listening.now.address) ended.new
+    ensures reports { IsAnnouncedBy (O.contents writer.old) (string_bytes listening.now.address) ended.new
         (O.contents result.now) }
 {
     let address = listening.address.as_str();

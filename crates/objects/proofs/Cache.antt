@@ -51,10 +51,10 @@ module _ {V : Type 0} (k q : ℕ) where
       go rest false is = behind (nat_eq q k) (nat_eq q e.0) (has (remove_entry (nat_eq k) es)) (has es) rest
 
 -- a key that is put into a cache with room is there besides those that were
-pub noted_put : {X : Type 0} (cache : LruCache ℕ X) (k : ℕ) (v : X) (q : ℕ) → length cache.entries < cache.cap
+pub tracked_put : {X : Type 0} (cache : LruCache ℕ X) (k : ℕ) (v : X) (q : ℕ) → length cache.entries < cache.cap
     → list_any (nat_eq q) (keys_of (put_entries nat_eq cache k v))
     ≡ list_any (nat_eq q) (k ∷ keys_of cache.entries)
-noted_put {X = X} cache k v q room = go (lookup_entry (nat_eq k) cache.entries) refl
+tracked_put {X = X} cache k v q has_space = go (lookup_entry (nat_eq k) cache.entries) refl
   where
     go : (found : Option (ℕ × X)) → lookup_entry (nat_eq k) cache.entries ≡ found
         → list_any (nat_eq q) (keys_of (option_map_or (λ e. (e.0, v) ∷ remove_entry (nat_eq k) cache.entries) found
@@ -62,7 +62,7 @@ noted_put {X = X} cache k v q room = go (lookup_entry (nat_eq k) cache.entries) 
         ≡ list_any (nat_eq q) (k ∷ keys_of cache.entries)
     go None is =
         ap (λ (es : List (ℕ × X)). list_any (nat_eq q) (k ∷ keys_of es))
-        (whole (cache.cap - 1) cache.entries (omega (arith, room)))
+        (whole (cache.cap - 1) cache.entries (omega (arith, has_space)))
     go (Some e) is =
         let same : e.0 ≡ k = sym (eqb-true k e.0 (Contains-lookup_entry (nat_eq k) cache.entries e is).1) in
         ap (λ n. list_any (nat_eq q) (n ∷ keys_of (remove_entry (nat_eq k) cache.entries))) same

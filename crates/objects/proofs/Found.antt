@@ -5,19 +5,19 @@ use Rattle.std.specs.List.{find, filter}
 
 module _ {X : Type 0} (p : X → Bool) where
   -- it is the first still where it is kept
-  pub find_kept : (q : X → Bool) (xs : List X) (x : X) → find p xs ≡ Some x → q x ≡ true
+  pub find_retained : (q : X → Bool) (xs : List X) (x : X) → find p xs ≡ Some x → q x ≡ true
       → find p (filter q xs) ≡ Some x
-  find_kept q [] x e keeps = absurd (cc)
-  find_kept q (y ∷ ys) x e keeps = go (find_kept q ys x) (p y) refl (q y) refl e
+  find_retained q [] x e preserves = absurd (cc)
+  find_retained q (y ∷ ys) x e preserves = go (find_retained q ys x) (p y) refl (q y) refl e
     where
       go : (find p ys ≡ Some x → q x ≡ true → find p (filter q ys) ≡ Some x) → (t : Bool) → p y ≡ t
           → (u : Bool) → q y ≡ u → cond t (Some y) (find p ys) ≡ Some x
           → find p (cond u (y ∷ filter q ys) (filter q ys)) ≡ Some x
       go rest true is true kept e = ap (λ b. cond b (Some y) (find p (filter q ys))) is ∙ e
       go rest true is false kept e =
-          let same : y ≡ x = cc in let no : true ≡ false = sym keeps ∙ ap q (sym same) ∙ kept in absurd (cc)
-      go rest false is true kept e = ap (λ b. cond b (Some y) (find p (filter q ys))) is ∙ rest e keeps
-      go rest false is false kept e = rest e keeps
+          let same : y ≡ x = cc in let no : true ≡ false = sym preserves ∙ ap q (sym same) ∙ kept in absurd (cc)
+      go rest false is true kept e = ap (λ b. cond b (Some y) (find p (filter q ys))) is ∙ rest e preserves
+      go rest false is false kept e = rest e preserves
 
   -- nothing comes by a filter
   pub find_none : (q : X → Bool) (xs : List X) → find p xs ≡ None → find p (filter q xs) ≡ None
@@ -33,13 +33,13 @@ module _ {X : Type 0} (p : X → Bool) where
   -- a filter that keeps all that passes changes nothing
   pub find_through : (q : X → Bool) (xs : List X) → ((x : X) → p x ≡ true → q x ≡ true)
       → find p (filter q xs) ≡ find p xs
-  find_through q [] keeps = refl
-  find_through q (y ∷ ys) keeps = go (find_through q ys keeps) (p y) refl (q y) refl
+  find_through q [] preserves = refl
+  find_through q (y ∷ ys) preserves = go (find_through q ys preserves) (p y) refl (q y) refl
     where
       go : find p (filter q ys) ≡ find p ys → (t : Bool) → p y ≡ t → (u : Bool) → q y ≡ u
           → find p (cond u (y ∷ filter q ys) (filter q ys)) ≡ cond t (Some y) (find p ys)
       go rest true is true kept = ap (λ b. cond b (Some y) (find p (filter q ys))) is
-      go rest true is false kept = absurd (let yes : q y ≡ true = keeps y is in cc)
+      go rest true is false kept = absurd (let yes : q y ≡ true = preserves y is in cc)
       go rest false is true kept = ap (λ b. cond b (Some y) (find p (filter q ys))) is ∙ rest
       go rest false is false kept = rest
 
@@ -67,10 +67,10 @@ module _ {X : Type 0} (p : X → Bool) where
   find_push_other (z ∷ zs) y e = ap (λ o. cond (p z) (Some z) o) (find_push_other zs y e)
 
   -- none is found where none that passes is kept
-  pub find_none_kept : (q : X → Bool) (xs : List X) → ((x : X) → p x ≡ true → q x ≡ false)
+  pub find_none_retained : (q : X → Bool) (xs : List X) → ((x : X) → p x ≡ true → q x ≡ false)
       → find p (filter q xs) ≡ None
-  find_none_kept q [] away = refl
-  find_none_kept q (y ∷ ys) away = go (find_none_kept q ys away) (q y) refl (p y) refl
+  find_none_retained q [] away = refl
+  find_none_retained q (y ∷ ys) away = go (find_none_retained q ys away) (q y) refl (p y) refl
     where
       go : find p (filter q ys) ≡ None → (u : Bool) → q y ≡ u → (t : Bool) → p y ≡ t
           → find p (cond u (y ∷ filter q ys) (filter q ys)) ≡ None

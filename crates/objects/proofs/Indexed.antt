@@ -42,28 +42,28 @@ at_none (x ∷ xs) block none =
 pub found : (xs : List Present) (indices : List ℕ) (block : BlockNo) (i : ℕ) → IsIndex (numbers xs) indices
     → i ≡ slice_index indices block.0 → i < length xs → slice_index (numbers xs) i ≡ block.0
     → Some i ≡ position (is_of block) xs
-found xs indices block i index noted lt is =
+found xs indices block i index tracked lt is =
     let size : length (numbers xs) ≡ length xs = length-map xs (λ (resident : Present). resident.block.0) in
     let at : position_or_len (is_of block) xs ≡ i =
     at_first xs block i lt is
     (λ j l e. (
     let k : slice_index indices block.0 ≡ j =
     subst (λ (n : ℕ). slice_index indices n ≡ j) e (index.there j (omega (arith, l, lt, size))) in
-    absurd (omega (arith, k, noted, l)))) in
+    absurd (omega (arith, k, tracked, l)))) in
     sym (ap (λ (n : ℕ). cond (nat_lt n (length xs)) (Some n) None) at
     ∙ ap (λ t. cond t (Some i) None) (lt-ltb i (length xs) lt))
 
 pub not_found : (xs : List Present) (indices : List ℕ) (block : BlockNo) (i : ℕ) → IsIndex (numbers xs) indices
     → i ≡ slice_index indices block.0 → (i < length xs → slice_index (numbers xs) i ≡ block.0 → ⊥)
     → None ≡ position (is_of block) xs
-not_found xs indices block i index noted never =
+not_found xs indices block i index tracked never =
     let size : length (numbers xs) ≡ length xs = length-map xs (λ (resident : Present). resident.block.0) in
     let at : position_or_len (is_of block) xs ≡ length xs =
     at_none xs block
     (λ j l e. (
     let k : slice_index indices block.0 ≡ j =
     subst (λ (n : ℕ). slice_index indices n ≡ j) e (index.there j (omega (arith, l, size))) in
-    let same : i ≡ j = noted ∙ k in
+    let same : i ≡ j = tracked ∙ k in
     never (omega (arith, same, l)) (subst (λ (n : ℕ). slice_index (numbers xs) n ≡ block.0) (sym same) e))) in
     sym (ap (λ (n : ℕ). cond (nat_lt n (length xs)) (Some n) None) at
     ∙ ap (λ t. cond t (Some (length xs)) None) (le-ltb (length xs) (length xs) (omega arith)))
@@ -157,12 +157,12 @@ distinct (x ∷ xs) once j zero lt less e = absurd (omega (arith, lt))
 distinct (x ∷ xs) once zero (suc k) lt less e = absent_at xs x.block k once.0 (omega (arith, less)) (sym e)
 distinct (x ∷ xs) once (suc j) (suc k) lt less e = distinct xs once.1 j k (omega (arith, lt)) (omega (arith, less)) e
 
--- one that is noted anew beside those before it
-pub noted_too : (list indices : List ℕ) (i block : ℕ) → block < length indices → slice_index list i ≡ block
+-- one that is tracked anew beside those before it
+pub tracked_too : (list indices : List ℕ) (i block : ℕ) → block < length indices → slice_index list i ≡ block
     → ((k : ℕ) → k < i → slice_index list k ≢ block)
     → ((k : ℕ) → k < i → slice_index indices (slice_index list k) ≡ k)
     → (k : ℕ) → k < i + 1 → slice_index (slice_set indices block i) (slice_index list k) ≡ k
-noted_too list indices i block home is apart before k lt =
+tracked_too list indices i block home is apart before k lt =
     elim (cases_lt k i) as (λ _. slice_index (slice_set indices block i) (slice_index list k) ≡ k) [
       | inl less ↦ get_or-set_other indices block (slice_index list k) i 0 (apart k less) ∙ before k less
       | inr last ↦
@@ -214,14 +214,14 @@ pub numbers-push : (xs : List Present) (x : Present) → numbers (xs ++ x ∷ []
 numbers-push xs x = map-append (λ (resident : Present). resident.block.0) xs (x ∷ [])
 
 -- fewer residents
-pub homed_kept : (bs : List Bool) (count : ℕ) (xs : List Present) → AreHomed count (numbers xs)
+pub homed_retained : (bs : List Bool) (count : ℕ) (xs : List Present) → AreHomed count (numbers xs)
     → AreHomed count (numbers (items_where_true bs xs))
-homed_kept [] count xs h k lt = absurd (omega (arith, lt))
-homed_kept (b ∷ bs) count [] h k lt = absurd (omega (arith, lt))
-homed_kept (false ∷ bs) count (x ∷ xs) h k lt = homed_kept bs count xs (λ j l. h (suc j) (omega (arith, l))) k lt
-homed_kept (true ∷ bs) count (x ∷ xs) h zero lt = h zero (omega arith)
-homed_kept (true ∷ bs) count (x ∷ xs) h (suc k) lt =
-    homed_kept bs count xs (λ j l. h (suc j) (omega (arith, l))) k (omega (arith, lt))
+homed_retained [] count xs h k lt = absurd (omega (arith, lt))
+homed_retained (b ∷ bs) count [] h k lt = absurd (omega (arith, lt))
+homed_retained (false ∷ bs) count (x ∷ xs) h k lt = homed_retained bs count xs (λ j l. h (suc j) (omega (arith, l))) k lt
+homed_retained (true ∷ bs) count (x ∷ xs) h zero lt = h zero (omega arith)
+homed_retained (true ∷ bs) count (x ∷ xs) h (suc k) lt =
+    homed_retained bs count xs (λ j l. h (suc j) (omega (arith, l))) k (omega (arith, lt))
 
 module _ (block : BlockNo) (content : Content) where
   pub numbers-filled : (xs : List Present) → numbers (filled xs block content) ≡ numbers xs

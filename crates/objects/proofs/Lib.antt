@@ -3,8 +3,8 @@ pub mod CountedSoFar
 pub mod Filled
 pub mod Found
 pub mod Indexed
-pub mod Kept
-pub mod Noted
+pub mod ArePreserved
+pub mod Tracked
 pub mod NumbersAt
 pub mod PartThere
 pub mod Residents

@@ -7,7 +7,7 @@ use Rattle.std.proofs.lemmas.List.{length-take-le, take_all}
 use Rattle.base.specs.declared.TheConstants.{BLOCK_BYTES}
 use Rattle.objects.specs.Spliced.{extracted, spliced}
 
-module _ (content bytes : List ℕ) (offset : ℕ) (room : offset + length bytes ≤ length content) where
+module _ (content bytes : List ℕ) (offset : ℕ) (has_space : offset + length bytes ≤ length content) where
   abbrev behind_it : List ℕ
   behind_it = drop (offset + length bytes) content
 
@@ -19,7 +19,7 @@ module _ (content bytes : List ℕ) (offset : ℕ) (room : offset + length bytes
   is_joined = append_assoc (take offset content) bytes behind_it
 
   before : length (take offset content) ≡ offset
-  before = length-take-le offset content (omega (arith, room))
+  before = length-take-le offset content (omega (arith, has_space))
 
   pub spliced-length : length (spliced content offset bytes) ≡ length content
   spliced-length =
@@ -27,7 +27,7 @@ module _ (content bytes : List ℕ) (offset : ℕ) (room : offset + length bytes
       let b = length-append bytes behind_it in
       let c = length-drop (offset + length bytes) content in
       let d = before in
-      ap (λ (l : List ℕ). length l) is_joined ∙ omega (arith, a, b, c, d, room)
+      ap (λ (l : List ℕ). length l) is_joined ∙ omega (arith, a, b, c, d, has_space)
 
   -- past the seam
   past : (n : ℕ) → drop (offset + n) (spliced content offset bytes) ≡ drop n (bytes ++ behind_it)

@@ -22,8 +22,8 @@ abbrev pub pins_of : Residents → BlockNo → ℕ
 pins_of residents block = count_in residents.counts block
 
 -- one pin more of the block can be counted, and needs no memory
-abbrev pub HasRoom : List (ℕ × ℕ) → BlockNo → Type 0
-HasRoom counts block = IsSome (lookup (nat_eq block.0) counts) × (count_in counts block + 1 < 2 ^ 64)
+abbrev pub HasReserved : List (ℕ × ℕ) → BlockNo → Type 0
+HasReserved counts block = IsSome (lookup (nat_eq block.0) counts) × (count_in counts block + 1 < 2 ^ 64)
 
 -- one at this block
 abbrev pub once_at : BlockNo → BlockNo → ℕ

@@ -11,5 +11,5 @@ numbers_in None = []
 numbers_in (Some cache) = keys_of cache.entries
 
 -- whether the block's number is among these
-abbrev pub is_noted : List ℕ → BlockNo → Bool
-is_noted numbers block = list_any (nat_eq block.0) numbers
+abbrev pub is_tracked : List ℕ → BlockNo → Bool
+is_tracked numbers block = list_any (nat_eq block.0) numbers

@@ -157,7 +157,7 @@ impl Blocks {
 }
 
 // What stands at the number of the block.
-fn noted(indices: &[usize], block: BlockNo) -> usize
+fn tracked(indices: &[usize], block: BlockNo) -> usize
     ensures { result ≡ slice_index indices.now block.0 }
 {
     let at = block.0 as usize;
@@ -169,7 +169,7 @@ fn index_of(list: &[Present], indices: &[usize], block: BlockNo) -> Option<usize
     requires { IsIndex (numbers list.now) indices.now }
     ensures { result ≡ position (λ resident. nat_eq resident.block.0 block.0) list.now }
 {
-    let i = noted(indices, block);
+    let i = tracked(indices, block);
     if i < list.len() && list[i].block == block {
         return Some(i);
     }
@@ -228,7 +228,7 @@ fn bytes_in(
     bytes_of(&mut list[i], alloc, addr)
 }
 
-// The same of one resident.
+// The same of one resident. Its content is taken out while it becomes shared, and put back.
 fn bytes_of(
     resident: &mut Present,
     alloc: Global,
@@ -238,10 +238,12 @@ fn bytes_of(
     ensures bytes { IfOk result (λ found. found ≡ bytes_in resident.old.content addr.offset addr.len) }
     ensures len { IfOk result (λ found. IfSome found (λ bytes. length bytes ≡ addr.len)) }
 {
-    match resident.content.as_mut() {
-        Some(there) => Ok(Some(there.bytes_at(alloc, addr)?)),
-        None => Ok(None),
-    }
+    let Some(there) = resident.content.take() else {
+        return Ok(None);
+    };
+    let (there, bytes) = there.bytes_at(alloc, addr);
+    resident.content = Some(there);
+    Ok(Some(bytes?))
 }
 
 // Puts the content of a block in its place, where its fetch is pending.

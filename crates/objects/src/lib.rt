@@ -5,7 +5,6 @@ mod addr;
 mod blocks;
 mod clean;
 mod counted;
-mod kept_block;
 mod mode;
 mod object;
 mod parts;

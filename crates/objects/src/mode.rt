@@ -9,18 +9,18 @@ pub enum Mode {
 }
 
 impl Mode {
-    ghost use Rattle.objects.specs.Mode.{Excludes, raised};
+    ghost use Rattle.objects.specs.Mode.{Excludes, upgraded};
 
-    /// Whether what is taken in this mode keeps off what is wished in the other.
+    /// Whether what is taken in this mode keeps off what is asked for in the other.
     pub fn excludes(self, other: Mode) -> bool
         ensures { IsTrue result ↔ Excludes self other }
     {
         self == Mode::Exclusive || other == Mode::Exclusive
     }
 
-    /// The mode of an address that is taken in this one and wished in the other.
-    pub fn raised(self, other: Mode) -> Mode
-        ensures { result ≡ raised self other }
+    /// The mode of an address that is taken in this one and asked for in the other.
+    pub fn upgraded(self, other: Mode) -> Mode
+        ensures { result ≡ upgraded self other }
     {
         match other {
             Mode::Shared => self,

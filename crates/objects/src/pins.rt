@@ -2,7 +2,7 @@
 ghost use Rattle.std.specs.Prelude.{◌≡◌, ◌<◌, ◌+◌, ◌-◌, ◌^◌, IsSome, OnOk, OnErr, if◌then◌else◌, nat_eq};
 ghost use Rattle.std.specs.Map.{lookup};
 ghost use Rattle.disk.specs.declared.block.BlockNo.{BlockNo};
-ghost use Rattle.objects.specs.Pins.{HasRoom, count_in, once_at};
+ghost use Rattle.objects.specs.Pins.{HasReserved, count_in, once_at};
 
 use disk::BlockNo;
 use std::alloc::AllocError;
@@ -30,8 +30,8 @@ pub(crate) fn add(pins: &mut HashMap<u32, u64>, block: BlockNo) -> Result<(), Al
 }
 
 /// Makes room for one pin more of the block. Nothing else changes.
-pub(crate) fn make_room(pins: &mut HashMap<u32, u64>, block: BlockNo) -> Result<(), AllocError>
-    ensures room { OnOk result (HasRoom pins.new.entries block) }
+pub(crate) fn reserve_next(pins: &mut HashMap<u32, u64>, block: BlockNo) -> Result<(), AllocError>
+    ensures has_space { OnOk result (HasReserved pins.new.entries block) }
     ensures same { (at : BlockNo) → count_in pins.new.entries at ≡ count_in pins.old.entries at }
 {
     match pins.get(&block.0).copied() {
@@ -57,7 +57,7 @@ fn set(pins: &mut HashMap<u32, u64>, block: BlockNo, count: u64)
 
 /// Pins a block once more for which there is room.
 pub(crate) fn add_reserved(pins: &mut HashMap<u32, u64>, block: BlockNo)
-    requires { HasRoom pins.old.entries block }
+    requires { HasReserved pins.old.entries block }
     ensures { (at : BlockNo) → count_in pins.new.entries at ≡ count_in pins.old.entries at + once_at block at }
 {
     let count = count_of(pins, block);
@@ -67,7 +67,7 @@ pub(crate) fn add_reserved(pins: &mut HashMap<u32, u64>, block: BlockNo)
 /// Pins a block once more that is pinned.
 pub(crate) fn add_again(pins: &mut HashMap<u32, u64>, block: BlockNo)
     requires there { 0 < count_in pins.old.entries block }
-    requires room { count_in pins.old.entries block + 1 < 2 ^ 64 }
+    requires has_space { count_in pins.old.entries block + 1 < 2 ^ 64 }
     ensures { (at : BlockNo) → count_in pins.new.entries at ≡ count_in pins.old.entries at + once_at block at }
 {
     let count = count_of(pins, block);

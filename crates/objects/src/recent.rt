@@ -4,7 +4,7 @@ ghost use Rattle.std.specs.Map.{keys_of};
 ghost use Rattle.disk.specs.declared.block.BlockNo.{BlockNo as BlockNumber};
 ghost use Rattle.base.specs.declared.TheConstants.{CLEAN_BLOCKS};
 ghost use Rattle.lru.specs.LruCache.{lru_cache};
-ghost use Rattle.objects.specs.Recent.{is_noted};
+ghost use Rattle.objects.specs.Recent.{is_tracked};
 
 use base::CLEAN_BLOCKS;
 use disk::BlockNo;
@@ -14,7 +14,7 @@ use std::marker::Model;
 use std::num::NonZeroUsize;
 
 // How many are noted until those noted longest ago are forgotten.
-const MOST_NOTED: usize = 2 * CLEAN_BLOCKS;
+const MOST_TRACKED: usize = 2 * CLEAN_BLOCKS;
 
 /// The numbers of the blocks that were unpinned for the last time, in the order in which that was: the last
 /// `CLEAN_BLOCKS`, and fewer than as many again; none at all where there was no memory for it. Some of them may be
@@ -41,7 +41,7 @@ impl Recent {
     pub(crate) fn new(alloc: Global) -> Recent
         ensures { result ≡ [] }
     {
-        let numbers = match NonZeroUsize::new(MOST_NOTED) {
+        let numbers = match NonZeroUsize::new(MOST_TRACKED) {
             Some(most) => LruCache::new(alloc, most).ok(),
             None => None,
         };
@@ -49,14 +49,14 @@ impl Recent {
     }
 
     /// Notes a block that was unpinned for the last time, as the last one. It tells whether there was memory for it.
-    pub(crate) fn note(&mut self, block: BlockNo) -> bool
+    pub(crate) fn track(&mut self, block: BlockNo) -> bool
         requires { length self.old < 2 * CLEAN_BLOCKS }
-        ensures noted { result ≡ true → (at : BlockNumber)
-            → is_noted self.new at ≡ is_noted (block.0 ∷ self.old) at }
+        ensures tracked { result ≡ true → (at : BlockNumber)
+            → is_tracked self.new at ≡ is_tracked (block.0 ∷ self.old) at }
         ensures refused { result ≡ false → self.new ≡ self.old }
     {
         match self.numbers.as_mut() {
-            Some(numbers) => note_in(numbers, block),
+            Some(numbers) => track_in(numbers, block),
             None => false,
         }
     }
@@ -76,7 +76,7 @@ impl Recent {
 
     /// Whether the block is noted.
     pub(crate) fn has(&self, block: BlockNo) -> bool
-        ensures { result ≡ is_noted self.now block }
+        ensures { result ≡ is_tracked self.now block }
     {
         match self.numbers.as_ref() {
             Some(numbers) => numbers.contains(&block.0),
@@ -86,12 +86,12 @@ impl Recent {
 }
 
 // Notes a block as the last one, where there is room for one more. It tells whether there was memory for it.
-fn note_in(numbers: &mut LruCache<u32, ()>, block: BlockNo) -> bool
+fn track_in(numbers: &mut LruCache<u32, ()>, block: BlockNo) -> bool
     requires { length numbers.old.entries < numbers.old.cap }
-    ensures noted { result ≡ true → (at : BlockNumber)
-        → is_noted (keys_of numbers.new.entries) at ≡ is_noted (block.0 ∷ keys_of numbers.old.entries) at }
+    ensures tracked { result ≡ true → (at : BlockNumber)
+        → is_tracked (keys_of numbers.new.entries) at ≡ is_tracked (block.0 ∷ keys_of numbers.old.entries) at }
     ensures refused { result ≡ false → numbers.new ≡ numbers.old }
-    ensures room { numbers.new.cap ≡ numbers.old.cap }
+    ensures has_space { numbers.new.cap ≡ numbers.old.cap }
 {
     numbers.put(block.0, ()).is_ok()
 }
@@ -102,9 +102,9 @@ fn forget_in(numbers: &mut LruCache<u32, ()>) -> bool
     ensures few { length numbers.new.entries < 2 * CLEAN_BLOCKS }
     ensures forgot { result ≡ true → keys_of numbers.new.entries ≡ take CLEAN_BLOCKS (keys_of numbers.old.entries) }
     ensures kept { result ≡ false → numbers.new ≡ numbers.old }
-    ensures room { numbers.new.cap ≡ numbers.old.cap }
+    ensures has_space { numbers.new.cap ≡ numbers.old.cap }
 {
-    if numbers.len() < MOST_NOTED {
+    if numbers.len() < MOST_TRACKED {
         return false;
     }
     keep_last(numbers, CLEAN_BLOCKS);

@@ -3,7 +3,7 @@ ghost use Rattle.std.specs.Prelude.{◌≡◌, ◌<◌, ◌+◌, ◌-◌, ◌*�
 ghost use Rattle.std.specs.Prelude.{length, option_map};
 ghost use Rattle.disk.specs.declared.block.BlockNo.{BlockNo};
 ghost use Rattle.base.specs.declared.TheConstants.{CLEAN_BLOCKS};
-ghost use Rattle.objects.specs.Pins.{HasRoom, Pins, PinsStay, Unpins, once_at, pins_of, spared};
+ghost use Rattle.objects.specs.Pins.{HasReserved, Pins, PinsStay, Unpins, once_at, pins_of, spared};
 ghost use Rattle.objects.specs.Unneeded.{unneeded};
 ghost use Rattle.objects.specs.Present.{bytes_in, present_of, content_in, is_pending, IsOnce, with_block, filled};
 ghost use Rattle.objects.specs.Present.{without_pending, without_block, renewed};
@@ -42,9 +42,9 @@ impl Model for Residency {
     } };
 
     ghost use Rattle.objects.specs.Pins.{count_in};
-    ghost use Rattle.objects.specs.Unneeded.{IsTidy};
+    ghost use Rattle.objects.specs.Unneeded.{TracksUnneeded};
 
-    ghost invariant = { λ residency. IsTidy residency.recent (count_in residency.pins.entries) residency.blocks };
+    ghost invariant = { λ residency. TracksUnneeded residency.recent (count_in residency.pins.entries) residency.blocks };
 }
 
 impl Residency {
@@ -108,18 +108,25 @@ impl Residency {
         }
     }
 
+    /// How many blocks have a count of pins: those that are pinned, and those for which room for a pin was made.
+    pub fn pinned(&self) -> usize
+        ensures { result ≡ length self.now.counts }
+    {
+        self.pins.len()
+    }
+
     /// Makes room for one pin more of a block, whether it is in memory or not. Nothing else changes.
-    pub fn make_room(&mut self, block: BlockNo) -> Result<(), AllocError>
-        ensures room { OnOk result (HasRoom self.new.counts block) }
+    pub fn reserve_next(&mut self, block: BlockNo) -> Result<(), AllocError>
+        ensures has_space { OnOk result (HasReserved self.new.counts block) }
         ensures pins { PinsStay self.old self.new }
         ensures blocks { self.new.blocks ≡ self.old.blocks }
     {
-        pins::make_room(&mut self.pins, block)
+        pins::reserve_next(&mut self.pins, block)
     }
 
     /// Pins a block once more for which there is room, whether it is in memory or not.
     pub fn pin_reserved(&mut self, block: BlockNo)
-        requires { HasRoom self.old.counts block }
+        requires { HasReserved self.old.counts block }
         ensures { Pins self.old (once_at block) self.new }
     {
         pins::add_reserved(&mut self.pins, block);
@@ -137,7 +144,7 @@ impl Residency {
     /// Pins a block once more that is pinned and whose pins can be counted.
     pub fn pin_again(&mut self, block: BlockNo)
         requires there { 0 < pins_of self.old block }
-        requires room { pins_of self.old block + 1 < 2 ^ 64 }
+        requires has_space { pins_of self.old block + 1 < 2 ^ 64 }
         ensures { Pins self.old (once_at block) self.new }
     {
         pins::add_again(&mut self.pins, block);

@@ -38,15 +38,15 @@ none_read (Some xs) = refl
 
 -- ---- replies behind what was written before
 
-behind : {before : Files} {bytes written left : List ℕ} {after : Files} (front : List ℕ)
+behind : {before : Files} {bytes written left : List ℕ} {after : Files} (leading : List ℕ)
     → AreAnswered before bytes [] written left after
-    → AreAnswered before bytes front (front ++ written) left after
-behind {before} {bytes} front Nothing =
-    subst (λ (w : List ℕ). AreAnswered before bytes front w bytes before) (sym (append-nil front)) Nothing
-behind {before} {bytes} front
+    → AreAnswered before bytes leading (leading ++ written) left after
+behind {before} {bytes} leading Nothing =
+    subst (λ (w : List ℕ). AreAnswered before bytes leading w bytes before) (sym (append-nil leading)) Nothing
+behind {before} {bytes} leading
     (More {written = written} {reply = reply} {behind = left} {after = after} answered next) =
-    subst (λ (w : List ℕ). AreAnswered before bytes front w left after) (append_assoc front written reply)
-    (More (behind front answered) next)
+    subst (λ (w : List ℕ). AreAnswered before bytes leading w left after) (append_assoc leading written reply)
+    (More (behind leading answered) next)
 
 -- ---- before the first read, and behind one
 
@@ -58,23 +58,23 @@ begun start unread first goes_on = record {
   consumed = none_read unread;
   answered = subst (λ (b : List ℕ). AreAnswered start.files b [] [] start.unread start.files)
       (sym (append-nil start.unread)) Nothing;
-  told = none_written first;
+  appended_replies = none_written first;
   goes_on = goes_on;
 }
 
 pub fed : (start now next : Session) (unread rest more first written longer : Option (List ℕ))
-    (piece told : List ℕ) → IsAttended start now unread rest first written → Consumes rest more piece
-    → IsFed now piece [] Open told next → Appends written longer told
+    (piece replies_added : List ℕ) → IsAttended start now unread rest first written → Consumes rest more piece
+    → IsFed now piece [] Open replies_added next → Appends written longer replies_added
     → IsAttended start next unread more first longer
-fed start now next unread rest more first written longer piece told so_far consumed is writes = record {
+fed start now next unread rest more first written longer piece replies_added so_far consumed is writes = record {
   read = so_far.read ++ piece;
-  replies = so_far.replies ++ told;
+  replies = so_far.replies ++ replies_added;
   consumed = both_read unread rest more so_far.read piece so_far.consumed consumed;
   answered = subst
-      (λ (b : List ℕ). AreAnswered start.files b [] (so_far.replies ++ told) next.unread next.files)
+      (λ (b : List ℕ). AreAnswered start.files b [] (so_far.replies ++ replies_added) next.unread next.files)
       (append_assoc start.unread so_far.read piece)
       (at_once _ _ _ (start.unread ++ so_far.read) piece [] so_far.replies _ now.unread _ so_far.answered
       (behind so_far.replies is.answered));
-  told = both_written first written longer so_far.replies told so_far.told writes;
+  appended_replies = both_written first written longer so_far.replies replies_added so_far.appended_replies writes;
   goes_on = is.closed;
 }

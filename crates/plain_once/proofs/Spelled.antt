@@ -15,15 +15,15 @@ module _ (line : List (String Global)) (at : ℕ) (word : String Global) (within
 
   -- nothing is asked for
   abbrev AsksForNone : Option Asked → Type 0
-  AsksForNone told = IfNone told ((asked : Asked) → AsksFor (map string_bytes line) asked → ⊥)
+  AsksForNone words_read = IfNone words_read ((asked : Asked) → AsksFor (map string_bytes line) asked → ⊥)
 
   -- so it is where the word spells no number, and what is asked for goes by it
-  pub asks_for_none : ((number : ℕ) → Spells (string_bytes word) number → ⊥) → (told : Option Asked)
-      → told ≡ None → (by : Asked → ℕ)
+  pub asks_for_none : ((number : ℕ) → Spells (string_bytes word) number → ⊥) → (words_read : Option Asked)
+      → words_read ≡ None → (by : Asked → ℕ)
       → ((asked : Asked) → AsksFor (map string_bytes line) asked
       → Spells (get_or (map string_bytes line) at []) (by asked))
-      → AsksForNone told
-  asks_for_none unspelled told none by spells =
+      → AsksForNone words_read
+  asks_for_none unspelled words_read none by spells =
       subst AsksForNone (sym none) (λ asked asks. unspelled (by asked)
       (subst (λ w. Spells w (by asked)) bytes_at (spells asked asks)))
 

@@ -12,7 +12,7 @@ pub record IsAttended (start now : Session) (unread rest first written : Option 
   pub replies : List ℕ
   pub consumed : Consumes unread rest read
   pub answered : AreAnswered start.files (start.unread ++ read) [] replies now.unread now.files
-  pub told : Appends first written replies
+  pub appended_replies : Appends first written replies
   pub goes_on : now.is_closed ≡ false
 
 -- that is the whole input
@@ -26,4 +26,4 @@ pub record IsServedWhole (asked : Asked) (unread rest first written : Option (Li
   pub data_blocks : ℕ
   pub has_data : HasData asked.blocks asked.inodes (Some data_blocks)
   pub last : Session
-  pub done : IsDone (fresh data_blocks asked.inodes asked.made asked.pace) last unread rest first written
+  pub done : IsDone (fresh data_blocks asked.inodes asked.made asked.fake_clock) last unread rest first written

@@ -17,5 +17,5 @@ pub record AsksFor (line : List (List ℕ)) (asked : Asked) : Type 0 where
   pub blocks : Spells (get_or line 1 []) asked.blocks
   pub inodes : Spells (get_or line 2 []) asked.inodes
   pub made : Spells (get_or line 3 []) asked.made
-  pub second : Spells (get_or line 4 []) asked.pace.second
-  pub rise : RisesBy line asked.pace.rise
+  pub second : Spells (get_or line 4 []) asked.fake_clock.second
+  pub rise : RisesBy line asked.fake_clock.rise

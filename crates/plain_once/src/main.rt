@@ -66,7 +66,13 @@ fn answer_asked<R: Read, W: Write>(
     ensures senseless { result ≡ SENSELESS → HasData asked.blocks asked.inodes None }
 {
     let mut piece = [0; PIECE_BYTES];
-    match PlainSession::new(alloc, asked.blocks, asked.inodes, asked.made, asked.pace) {
+    match PlainSession::new(
+        alloc,
+        asked.blocks,
+        asked.inodes,
+        asked.made,
+        asked.fake_clock,
+    ) {
         Ok(Some(mut session)) => {
             answer_input(alloc, &mut session, reader, writer, &mut piece, MOST_READS)
         }
@@ -149,9 +155,9 @@ fn answer_piece<W: Write>(
     piece: &[u8],
     writer: &mut W,
 ) -> bool
-    ensures { (session_of session.old).is_closed ≡ false → result ≡ true → (told : List ℕ)
-        × IsFed (session_of session.old) piece.now [] progress.Open told (session_of session.new)
-        × Appends (W.contents writer.old) (W.contents writer.new) told }
+    ensures { (session_of session.old).is_closed ≡ false → result ≡ true → (replies_added : List ℕ)
+        × IsFed (session_of session.old) piece.now [] progress.Open replies_added (session_of session.new)
+        × Appends (W.contents writer.old) (W.contents writer.new) replies_added }
 {
     let mut replies = Vec::new(alloc);
     let is_open = feed(alloc, session, piece, &mut replies);

@@ -4,14 +4,14 @@
 
 mod answers;
 mod image;
-mod laws;
 mod mounted;
 mod reader;
 mod records;
 mod session;
+mod session_laws;
 
-pub use answers::Pace;
+pub use answers::FakeClock;
 pub use image::data_blocks;
-pub use laws::{a_stream_begins_one_way, pieces_come_to_one, sessions_keep_files_sound};
 pub use records::{Cut, first_record};
 pub use session::{Connection, PlainSession, answer_stream};
+pub use session_laws::{a_stream_begins_one_way, pieces_come_to_one, sessions_keep_files_sound};

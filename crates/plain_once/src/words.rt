@@ -3,7 +3,7 @@ ghost use Rattle.std.specs.Prelude.{ℕ, map, string_bytes, IfSome, IfNone};
 ghost use Rattle.plain_once.specs.Words.{AsksFor, Spells};
 ghost use Rattle.plain_once.specs.declared.words.Asked.{Asked as ask};
 
-use crate::session::Pace;
+use crate::session::FakeClock;
 
 /// The counts of the image, when its root is made, and when calls come.
 #[derive(Clone, Copy, Debug, PartialEq, Eq)]
@@ -11,7 +11,7 @@ pub struct Asked {
     pub blocks: u32,
     pub inodes: u32,
     pub made: u32,
-    pub pace: Pace,
+    pub fake_clock: FakeClock,
 }
 
 /// What a command line asks for, of which the first word is the program's name: four numbers or five, or nothing.
@@ -25,7 +25,7 @@ pub fn parse(line: &[String]) -> Option<Asked>
             blocks: number(blocks)?,
             inodes: number(inodes)?,
             made: number(made)?,
-            pace: Pace {
+            fake_clock: FakeClock {
                 second: number(time)?,
                 rise: 0,
             },
@@ -34,7 +34,7 @@ pub fn parse(line: &[String]) -> Option<Asked>
             blocks: number(blocks)?,
             inodes: number(inodes)?,
             made: number(made)?,
-            pace: Pace {
+            fake_clock: FakeClock {
                 second: number(time)?,
                 rise: number(rise)?,
             },

@@ -11,5 +11,5 @@ pub ok_some_then : {A E : Type 0} (r : Result (Option A) E) (P Q : A → Type 0)
 ok_some_then (Ok given) P Q holds then = some_then given P Q holds then
 ok_some_then (Err e) P Q holds then = tt
 
-pub told : {A : Type 0} (given : Option A) (x : A) (P : A → Type 0) → given ≡ Some x → IfSome given P → P x
-told given x P is all = subst (λ o. IfSome o P) is all
+pub value_is : {A : Type 0} (given : Option A) (x : A) (P : A → Type 0) → given ≡ Some x → IfSome given P → P x
+value_is given x P is all = subst (λ o. IfSome o P) is all

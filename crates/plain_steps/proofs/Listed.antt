@@ -2,15 +2,15 @@
 use Rattle.std.proofs.Common.{◌≡◌, ℕ, zero, suc, ◌+◌, ◌<◌, ◌≤◌, sym, ap, ◌∙◌, refl, Bool, true, false, cond}
 use Rattle.std.proofs.Common.{rules, arith, nat_le, List, [], ◌∷◌, Some, None, inl, inr}
 use Rattle.std.specs.List.{cons_option, filter, filter_map, range_with_len}
-use Rattle.nfs_types.specs.declared.entries.ListedEntry.{ListedEntry}
+use Rattle.nfs_types.specs.declared.entries.ListedItem.{ListedItem}
 use Rattle.nfs_spec.specs.Model.Node.{Body, Regular, Directory, Link}
 use Rattle.nfs_spec.proofs.ProceduresLemmas.Lacking.{equal_or_not}
 use Rattle.nfs_spec.specs.Procedures.Listing.{listed_in}
 use Rattle.procs_files.specs.Heads.{listed_from}
 use Rattle.plain_steps.specs.Slots.{count_slots}
 
-kept : (p : ℕ → Bool) (x : ℕ) (xs : List ℕ) → p x ≡ true → filter p (x ∷ xs) ≡ x ∷ filter p xs
-kept p x xs is = ap (λ b. cond b (x ∷ filter p xs) (filter p xs)) is
+left_over : (p : ℕ → Bool) (x : ℕ) (xs : List ℕ) → p x ≡ true → filter p (x ∷ xs) ≡ x ∷ filter p xs
+left_over p x xs is = ap (λ b. cond b (x ∷ filter p xs) (filter p xs)) is
 
 skipped : (p : ℕ → Bool) (x : ℕ) (xs : List ℕ) → p x ≡ false → filter p (x ∷ xs) ≡ filter p xs
 skipped p x xs is = ap (λ b. cond b (x ∷ filter p xs) (filter p xs)) is
@@ -27,7 +27,7 @@ past from = λ slot. nat_le from slot
 all_past : (from a n : ℕ) → from ≤ a → filter (past from) (range_with_len a n) ≡ range_with_len a n
 all_past from a zero order = refl
 all_past from a (suc n) order =
-    kept (past from) a (range_with_len (a + 1) n) (within from a order)
+    left_over (past from) a (range_with_len (a + 1) n) (within from a order)
     ∙ ap (λ s. a ∷ s) (all_past from (a + 1) n (omega (arith, order)))
 
 none_past : (from a n : ℕ) → a + n ≤ from → filter (past from) (range_with_len a n) ≡ []
@@ -42,7 +42,7 @@ one_past from a zero order inside = absurd (omega (arith, order, inside))
 one_past from a (suc n) order inside = elim (equal_or_not a from) [
   | inl same ↦ (
       let rest = range_with_len (a + 1) n in
-      kept (past from) a rest (within from a (omega (arith, same)))
+      left_over (past from) a rest (within from a (omega (arith, same)))
       ∙ (λ i. same i ∷ all_past from (a + 1) n (omega (arith, same)) i)
       ∙ ap (λ s. from ∷ s) (sym (skipped (past (suc from)) a rest (above (suc from) a (omega (arith, same)))
       ∙ all_past (suc from) (a + 1) n (omega (arith, same))))
@@ -70,10 +70,10 @@ skips body slot inside none =
     split body slot inside ∙ ap (λ o. cons_option o (listed_from (suc slot) body)) none
 
 -- a slot with a name
-pub finds : (body : Body) (slot : ℕ) (entry : ListedEntry) → slot < count_slots body
-    → listed_in body slot ≡ Some entry
-    → listed_from slot body ≡ entry ∷ listed_from (suc slot) body
-finds body slot entry inside there =
+pub finds : (body : Body) (slot : ℕ) (dirent : ListedItem) → slot < count_slots body
+    → listed_in body slot ≡ Some dirent
+    → listed_from slot body ≡ dirent ∷ listed_from (suc slot) body
+finds body slot dirent inside there =
     split body slot inside ∙ ap (λ o. cons_option o (listed_from (suc slot) body)) there
 
 -- past the last slot

@@ -71,7 +71,7 @@ module _ (weight : ℕ × Node → ℕ) where
   no_weight_left (x ∷ xs) = no_weight_left xs
 
 abbrev blocks : ℕ × Node → ℕ
-blocks entry = cost entry.1.body
+blocks dirent = cost dirent.1.body
 
 blocks_at : (number : ℕ) (at : Option Node) → cost_at at ≡ weight_at blocks number at
 blocks_at number None = refl

@@ -6,8 +6,8 @@ use Rattle.std.proofs.Common.{arith}
 use Rattle.std.specs.List.{find, list_any, range_with_len}
 use Rattle.nfs_spec.specs.Model.Tree.{Tree, node_at}
 use Rattle.nfs_spec.specs.Procedures.Fresh.{IsNewNumber}
-use Rattle.plain_tree.specs.Tree.Named.{entry_of}
-use Rattle.plain_tree.specs.declared.tree.names.PlainEntry.{PlainEntry}
+use Rattle.plain_tree.specs.Tree.Named.{plain_dirent_of}
+use Rattle.plain_tree.specs.declared.tree.plain_names.PlainDirent.{PlainDirent}
 use Rattle.plain_steps.specs.Numbered.{least_unused}
 
 module _ (test : ℕ → Bool) where
@@ -116,7 +116,7 @@ some_there None e = cc
 some_there (Some x) e = refl
 
 -- entries of which one lies in a slot
-pub any_slot : (slot : ℕ) (xs : List PlainEntry)
-    → list_any (λ e. nat_eq e.slot slot) xs ≡ list_any (λ e. nat_eq e.1.slot slot) (map entry_of xs)
+pub any_slot : (slot : ℕ) (xs : List PlainDirent)
+    → list_any (λ e. nat_eq e.slot slot) xs ≡ list_any (λ e. nat_eq e.1.slot slot) (map plain_dirent_of xs)
 any_slot slot [] = refl
 any_slot slot (x ∷ xs) = ap (λ b. nat_eq x.slot slot || b) (any_slot slot xs)

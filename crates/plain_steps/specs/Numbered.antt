@@ -15,7 +15,7 @@ files_of files = from_entries (map numbered files)
 
 -- the blocks that they use together
 abbrev pub blocks_of : List NumberedNode → ℕ
-blocks_of files = sum_by (λ entry. cost entry.1.body) (entries (files_of files))
+blocks_of files = sum_by (λ dirent. cost dirent.1.body) (entries (files_of files))
 
 abbrev pub weight_at : (ℕ × Node → ℕ) → ℕ → Option Node → ℕ
 weight_at weight number None = 0

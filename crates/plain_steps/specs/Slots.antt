@@ -4,7 +4,7 @@ use Rattle.std.specs.Option.{option_map}
 use Rattle.base.specs.declared.TheConstants.{SLOTS_PER_BLOCK}
 use Rattle.nfs_spec.specs.Model.Node.{Body, Regular, Directory, Link}
 use Rattle.nfs_spec.specs.Procedures.Listing.{listed_in}
-use Rattle.procs_files.specs.declared.entry.SlotName.{SlotName}
+use Rattle.procs_files.specs.declared.dirent.SlotName.{SlotName}
 use Rattle.procs_files.specs.Heads.{listing_of}
 
 -- how many slots a directory has

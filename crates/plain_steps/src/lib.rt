@@ -2,9 +2,9 @@
 //! each proved to be a step.
 #![tactic(auto)]
 
-mod answering;
-mod changing;
-mod telling;
+mod answers;
+mod query_answers;
 mod tree_files;
+mod update_answers;
 
-pub use answering::answer;
+pub use answers::answer;

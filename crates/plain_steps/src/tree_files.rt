@@ -1,14 +1,14 @@
 //! The files of a tree in memory.
 
-mod asking;
-mod changing;
 mod contents;
 mod heads;
-mod listing;
+mod next_names;
 mod nodes;
 mod numbers;
+mod overwrites;
 mod slots;
 mod space;
-mod writing;
+mod tree_queries;
+mod tree_updates;
 
 pub use heads::PlainFiles;

@@ -4,6 +4,6 @@
 mod tree;
 
 pub use tree::{
-    MappedIndexes, NumberedNode, PlainBody, PlainEntry, PlainNames, PlainNode, PlainTree,
+    MappedIndexes, NumberedNode, PlainBody, PlainDirent, PlainNames, PlainNode, PlainTree,
     set_length,
 };

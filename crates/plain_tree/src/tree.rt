@@ -2,12 +2,12 @@
 
 mod length;
 mod mapped;
-mod names;
 mod node;
+mod plain_names;
 mod tree;
 
 pub use length::set_length;
 pub use mapped::MappedIndexes;
-pub use names::{PlainEntry, PlainNames};
 pub use node::{PlainBody, PlainNode};
+pub use plain_names::{PlainDirent, PlainNames};
 pub use tree::{NumberedNode, PlainTree};

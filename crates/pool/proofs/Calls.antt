@@ -10,7 +10,7 @@ use Rattle.wal_calls.specs.declared.seats.turn.Turn.TheVariants as turn
 use Rattle.procs.specs.Outcome.{Outcome}
 use Rattle.store_promise.specs.declared.events.Step.{Step}
 use Rattle.store_workers.proofs.WorkCases.{Cases, by_cases}
-use Rattle.store_workers.specs.WorkerSteps.{GoesOn, Side, planned_of}
+use Rattle.store_workers.specs.WorkerSteps.{GoesOn, WorkerAndCore, planned_of}
 use Rattle.store_workers.specs.declared.workers.parts.Phase.{Phase}
 use Rattle.txn.specs.Core.{CoreState}
 use Rattle.txn.specs.Outcomes.{IsClaimed, IsCommit, IsWanted}
@@ -64,13 +64,13 @@ module _ (old new : CoreState) where
   committed tx done (commit.Broken back same_change) is = same old new is.0.core
   committed tx done (commit.Spent back same_change) is = same old new is.0.core
 
-abbrev HandsOut : Side → Side → Phase → Option Step → Type 0
+abbrev HandsOut : WorkerAndCore → WorkerAndCore → Phase → Option Step → Type 0
 HandsOut old new phase made = HandsOutNone old.core new.core
 
-cases : (old new : Side) → Cases old new (HandsOut old new)
+cases : (old new : WorkerAndCore) → Cases old new (HandsOut old new)
 cases old new = record {
-  idle = λ is. same old.core new.core (ap (λ (s : Side). s.core) is);
-  reading = λ is. same old.core new.core (ap (λ (s : Side). s.core) is);
+  idle = λ is. same old.core new.core (ap (λ (s : WorkerAndCore). s.core) is);
+  reading = λ is. same old.core new.core (ap (λ (s : WorkerAndCore). s.core) is);
   begun = λ job number job_is served has. by old.core _ new.core has.core refl refl refl;
   not_begun = λ job why job_is served no core worker. same old.core new.core core;
   replied = λ job job_is served core worker. same old.core new.core core;
@@ -84,7 +84,7 @@ cases old new = record {
   waited = λ place made has. same old.core new.core has.core;
 }
 
-pub hands_out_none : (old new : Side) (phase : Phase) (made : Option Step) → GoesOn phase old made new
+pub hands_out_none : (old new : WorkerAndCore) (phase : Phase) (made : Option Step) → GoesOn phase old made new
     → HandsOutNone old.core new.core
 hands_out_none old new phase made goes = by_cases old new (HandsOut old new) (cases old new) phase made goes
 

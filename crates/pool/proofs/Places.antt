@@ -5,8 +5,8 @@ use Rattle.objects.specs.declared.mode.Mode.{Mode}
 use Rattle.procs.specs.Outcome.{Outcome}
 use Rattle.store_promise.specs.declared.events.Step.{Step}
 use Rattle.store_workers.proofs.WorkCases.{Cases, by_cases}
-use Rattle.store_workers.specs.WorkerAnswers.{claim_wish, committing_of, wish_of}
-use Rattle.store_workers.specs.WorkerSteps.{GoesOn, Side, given_step, planned_of}
+use Rattle.store_workers.specs.WorkerAnswers.{claim_answer, committing_of, want_answer}
+use Rattle.store_workers.specs.WorkerSteps.{GoesOn, WorkerAndCore, given_step, planned_of}
 use Rattle.store_workers.specs.declared.workers.parts.Phase.{Phase}
 use Rattle.txn.specs.Core.{CoreState}
 use Rattle.txn.specs.Outcomes.{IsClaimed, IsCommit, IsWanted}
@@ -16,7 +16,7 @@ use Rattle.txn.specs.declared.outcomes.Commit.{Commit}
 use Rattle.txn.specs.declared.outcomes.Commit.TheVariants as commit
 use Rattle.txn.specs.declared.outcomes.Want.{Want}
 use Rattle.txn.specs.declared.outcomes.Want.TheVariants as want
-use Rattle.pool.specs.Stepping.{grown, told_by, told_commit, told_wish}
+use Rattle.pool.specs.Stepping.{grown, result_of_step, result_of_commit, result_of_lock_answer}
 
 abbrev places : CoreState → ℕ
 places core = core.log.places
@@ -29,7 +29,7 @@ same old new is = none old new (ap places is)
 
 module _ (old new : CoreState) where
   wanted : (tx : ℕ) (addr : Addr) (mode : Mode) (answer : Want) → IsWanted old tx addr mode answer new
-      → places new ≡ places old + grown (told_wish (wish_of answer))
+      → places new ≡ places old + grown (result_of_lock_answer (want_answer answer))
   wanted tx addr mode (want.Held back bytes) is = none old new (ap places is.2.only)
   wanted tx addr mode (want.Fetch back io) is = none old new (ap places is.2.only)
   wanted tx addr mode (want.Busy back) is = same old new is.2
@@ -38,7 +38,7 @@ module _ (old new : CoreState) where
   wanted tx addr mode (want.NoMemory back) is = same old new is.2
 
   claimed : (tx : ℕ) (addr : Addr) (answer : Claim) → IsClaimed old tx addr answer new
-      → places new ≡ places old + grown (told_wish (claim_wish answer))
+      → places new ≡ places old + grown (result_of_lock_answer (claim_answer answer))
   claimed tx addr (claim.Held back) is = none old new (ap places is.2.only)
   claimed tx addr (claim.Busy back) is = same old new is.2
   claimed tx addr (claim.Loading back) is = same old new is.2
@@ -47,7 +47,7 @@ module _ (old new : CoreState) where
 
   committed : (tx : ℕ) (done : Outcome) (answer : Commit Outcome)
       → IsCommit old tx (planned_of done) done answer new
-      → places new ≡ places old + grown (told_commit (committing_of answer))
+      → places new ≡ places old + grown (result_of_commit (committing_of answer))
   committed tx done (commit.Committed receipt) is = is.places
   committed tx done (commit.Full back same_change) is = same old new is.0.core
   committed tx done (commit.Foreign back same_change) is = same old new is.0.core
@@ -56,17 +56,17 @@ module _ (old new : CoreState) where
   committed tx done (commit.Spent back same_change) is = same old new is.0.core
 
 given : (ok : Bool) (io : _) (old new : CoreState) → places new ≡ places old
-    → places new ≡ places old + grown (told_by (Some (given_step ok io)))
+    → places new ≡ places old + grown (result_of_step (Some (given_step ok io)))
 given true io old new is = none old new is
 given false io old new is = none old new is
 
-abbrev TakesPlaces : Side → Side → Phase → Option Step → Type 0
-TakesPlaces old new phase made = places new.core ≡ places old.core + grown (told_by made)
+abbrev TakesPlaces : WorkerAndCore → WorkerAndCore → Phase → Option Step → Type 0
+TakesPlaces old new phase made = places new.core ≡ places old.core + grown (result_of_step made)
 
-cases : (old new : Side) → Cases old new (TakesPlaces old new)
+cases : (old new : WorkerAndCore) → Cases old new (TakesPlaces old new)
 cases old new = record {
-  idle = λ is. same old.core new.core (ap (λ (s : Side). s.core) is);
-  reading = λ is. same old.core new.core (ap (λ (s : Side). s.core) is);
+  idle = λ is. same old.core new.core (ap (λ (s : WorkerAndCore). s.core) is);
+  reading = λ is. same old.core new.core (ap (λ (s : WorkerAndCore). s.core) is);
   begun = λ job number job_is served has. none old.core new.core (ap places has.core);
   not_begun = λ job why job_is served no core worker. same old.core new.core core;
   replied = λ job job_is served core worker. same old.core new.core core;
@@ -80,6 +80,6 @@ cases old new = record {
   waited = λ place made has. same old.core new.core has.core;
 }
 
-pub takes_places : (old new : Side) (phase : Phase) (made : Option Step) → GoesOn phase old made new
-    → new.core.log.places ≡ old.core.log.places + grown (told_by made)
+pub takes_places : (old new : WorkerAndCore) (phase : Phase) (made : Option Step) → GoesOn phase old made new
+    → new.core.log.places ≡ old.core.log.places + grown (result_of_step made)
 takes_places old new phase made goes = by_cases old new (TakesPlaces old new) (cases old new) phase made goes

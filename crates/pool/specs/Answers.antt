@@ -16,13 +16,13 @@ use Rattle.store_promise.specs.declared.events.Step.TheVariants as step
 use Rattle.txn.specs.Core.{CoreState}
 use Rattle.txn.specs.Receipts.{Given}
 use Rattle.circ.specs.Log.Log.{settled_place}
-use Rattle.pool_requests.specs.Answers.Evident.{Answered, IsInItsPlace, IsOwn, answer_to as made_of, with_reply}
+use Rattle.pool_requests.specs.Answers.Evident.{Answered, IsSubstitute, IsOwn, answer_to as made_of, with_reply}
 use Rattle.pool_requests.specs.declared.answers.evidence.Evidence.{Evidence}
 use Rattle.pool_requests.specs.declared.answers.evidence.Evidence.TheVariants as evidence
 use Rattle.pool_requests.specs.Jobs.Sent.{Sent}
-use Rattle.pool.specs.Errand.{Errand}
-use Rattle.pool.specs.declared.errand.Way.{Way}
-use Rattle.pool.specs.declared.errand.Way.TheVariants as way
+use Rattle.pool.specs.CallInFlight.{CallInFlight}
+use Rattle.pool.specs.declared.in_flight.Way.{Way}
+use Rattle.pool.specs.declared.in_flight.Way.TheVariants as way
 
 -- what came of a procedure, as the body of a message
 abbrev pub body_of : Verdict → ReplyBody
@@ -32,74 +32,74 @@ body_of verdict.NoMemory = body.Refused SystemError
 -- what an answer rests on, by the step that gives it
 abbrev pub way_at : Committing → Way
 way_at (committing.Committed place) = way.Commit
-way_at committing.Full = way.InItsPlace
-way_at committing.Foreign = way.InItsPlace
-way_at committing.NoMemory = way.InItsPlace
-way_at committing.Broken = way.InItsPlace
-way_at committing.Spent = way.InItsPlace
+way_at committing.Full = way.Substitute
+way_at committing.Foreign = way.Substitute
+way_at committing.NoMemory = way.Substitute
+way_at committing.Broken = way.Substitute
+way_at committing.Spent = way.Substitute
 
 abbrev pub way_by : Option Step → Way
 way_by (Some (step.Commit added answer)) = way_at answer
 way_by (Some (step.Stable place true)) = way.Settled place
 way_by (Some step.Replied) = way.Nothing
-way_by _ = way.InItsPlace
+way_by _ = way.Substitute
 
 -- the evidence of it
 abbrev pub evidence_by : Way → Sent → Option (Given Outcome) → Evidence
 evidence_by way.Commit sent (Some given) = evidence.Committed sent given None
-evidence_by way.Commit sent None = evidence.InItsPlace sent
+evidence_by way.Commit sent None = evidence.Substitute sent
 evidence_by (way.Settled place) sent (Some given) = evidence.Committed sent given (Some place.0)
-evidence_by (way.Settled place) sent None = evidence.InItsPlace sent
-evidence_by way.Nothing sent voucher = evidence.Nothing sent
-evidence_by way.InItsPlace sent voucher = evidence.InItsPlace sent
+evidence_by (way.Settled place) sent None = evidence.Substitute sent
+evidence_by way.Nothing sent witness = evidence.Nothing sent
+evidence_by way.Substitute sent witness = evidence.Substitute sent
 
 abbrev pub answer_of : Way → Sent → Option (Given Outcome) → Verdict → Answered
-answer_of by sent voucher told = made_of sent.job (body_of told) (evidence_by by sent voucher)
+answer_of by sent witness given_verdict = made_of sent.job (body_of given_verdict) (evidence_by by sent witness)
 
 -- what was committed is the job's own, and this is its reply
-pub record IsReplyOf (sent : Sent) (given : Given Outcome) (told : Verdict) : Type 0 where
+pub record IsReplyOf (sent : Sent) (given : Given Outcome) (given_verdict : Verdict) : Type 0 where
   pub own : IsOwn sent given.change
-  pub told_is : told ≡ verdict.Reply given.change.reply
+  pub verdict_is_reply : given_verdict ≡ verdict.Reply given.change.reply
 
 -- What a step may tell for a job: the reply of its change, at the commit where it needn't be stable, or once its place
 -- is settled; the one to a call that begins no transaction; or one of the three in its place.
 abbrev pub GivesBy : CoreState → Way → Sent → Option (Given Outcome) → Verdict → Type 0
-GivesBy core way.Commit sent voucher told = IsSomeAnd voucher (λ given. IsReplyOf sent given told
+GivesBy core way.Commit sent witness given_verdict = IsSomeAnd witness (λ given. IsReplyOf sent given given_verdict
     × (is_answered_stable sent.job.call ≡ false))
-GivesBy core (way.Settled place) sent voucher told = IsSomeAnd voucher (λ given. IsReplyOf sent given told
+GivesBy core (way.Settled place) sent witness given_verdict = IsSomeAnd witness (λ given. IsReplyOf sent given given_verdict
     × (given.place ≡ place) × (place.0 ≤ settled_place core.log))
-GivesBy core way.Nothing sent voucher told = (begins_transaction sent.job.call ≡ false)
-    × (told ≡ verdict.Reply Null)
-GivesBy core way.InItsPlace sent voucher told = IsInItsPlace sent.job.call (body_of told)
+GivesBy core way.Nothing sent witness given_verdict = (begins_transaction sent.job.call ≡ false)
+    × (given_verdict ≡ verdict.Reply Null)
+GivesBy core way.Substitute sent witness given_verdict = IsSubstitute sent.job.call (body_of given_verdict)
 
 -- what shows the last commit
 abbrev pub kept : Option (Given Outcome) → Option (Given Outcome) → Option (Given Outcome)
-kept voucher (Some shown) = Some shown
-kept voucher None = voucher
+kept witness (Some shown) = Some shown
+kept witness None = witness
 
-abbrev pub no_errand : Errand
-no_errand = record { ticket = None; voucher = None; answer = None }
+abbrev pub none_in_flight : CallInFlight
+none_in_flight = record { reply_address = None; witness = None; answer = None }
 
 abbrev pub given_to : CoreState → Option Step → Option Sent → Option (Given Outcome) → Option CallAnswer → Type 0
-given_to core made ticket voucher None = Unit {0}
-given_to core made None voucher (Some given) = Unit {0}
-given_to core made (Some sent) voucher (Some given) = GivesBy core (way_by made) sent voucher given.verdict
+given_to core made reply_address witness None = Unit {0}
+given_to core made None witness (Some given) = Unit {0}
+given_to core made (Some sent) witness (Some given) = GivesBy core (way_by made) sent witness given.verdict
 
 -- what a step gives may be told for the job
-abbrev pub GivesFor : CoreState → Option Step → Errand → Option (Given Outcome) → Option CallAnswer → Type 0
-GivesFor core made errand shown given = given_to core made errand.ticket (kept errand.voucher shown) given
+abbrev pub GivesFor : CoreState → Option Step → CallInFlight → Option (Given Outcome) → Option CallAnswer → Type 0
+GivesFor core made in_flight shown given = given_to core made in_flight.reply_address (kept in_flight.witness shown) given
 
 -- what a step leaves of a job: with the answer that it gives, the job is answered
-abbrev pub errand_with : Option Step → Option Sent → Option (Given Outcome) → Option Answered → Option CallAnswer
-    → Errand
-errand_with made ticket voucher ready None = record { ticket = ticket; voucher = voucher; answer = ready }
-errand_with made None voucher ready (Some given) = record { ticket = None; voucher = voucher; answer = ready }
-errand_with made (Some sent) voucher ready (Some given) = record {
-  ticket = None;
-  voucher = None;
-  answer = Some (answer_of (way_by made) sent voucher given.verdict);
+abbrev pub in_flight_with : Option Step → Option Sent → Option (Given Outcome) → Option Answered → Option CallAnswer
+    → CallInFlight
+in_flight_with made reply_address witness ready None = record { reply_address = reply_address; witness = witness; answer = ready }
+in_flight_with made None witness ready (Some given) = record { reply_address = None; witness = witness; answer = ready }
+in_flight_with made (Some sent) witness ready (Some given) = record {
+  reply_address = None;
+  witness = None;
+  answer = Some (answer_of (way_by made) sent witness given.verdict);
 }
 
-abbrev pub errand_after : Option Step → Errand → Option (Given Outcome) → Option CallAnswer → Errand
-errand_after made errand shown given =
-    errand_with made errand.ticket (kept errand.voucher shown) errand.answer given
+abbrev pub in_flight_after : Option Step → CallInFlight → Option (Given Outcome) → Option CallAnswer → CallInFlight
+in_flight_after made in_flight shown given =
+    in_flight_with made in_flight.reply_address (kept in_flight.witness shown) in_flight.answer given

@@ -1,4 +1,4 @@
-pub mod Errand
+pub mod CallInFlight
 pub mod Working
 pub mod Answers
 pub mod Seated

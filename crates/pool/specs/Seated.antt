@@ -13,7 +13,7 @@ use Rattle.txn.specs.Receipts.{Given}
 use Rattle.circ.specs.declared.log.outcomes.Seq.{Seq}
 use Rattle.pool_requests.specs.Answers.Evident.{IsOwn}
 use Rattle.pool_requests.specs.Jobs.Sent.{Sent}
-use Rattle.pool.specs.Errand.{Errand}
+use Rattle.pool.specs.CallInFlight.{CallInFlight}
 
 -- it is the call of the job, for its credential, and at the moment at which it was taken up
 pub record IsOf (sent : Sent) (mine : own.Job) : Type 0 where
@@ -32,18 +32,18 @@ pub record WaitsWith (place : Seq) (state : State) (sent : Sent) (given : Given 
   pub broken_is : state.work.broken_reply ≡ Some (refused status.Io sent.job.call)
 
 abbrev pub StandsWith : Option Sent → Option (Given Outcome) → Phase → State → Type 0
-StandsWith ticket voucher Idle state = Unit {0}
-StandsWith ticket voucher Called state = IsSomeAnd ticket (HasCall state)
-StandsWith ticket voucher Planning state = IsSomeAnd ticket (HasCall state)
-StandsWith ticket voucher Reading state = IsSomeAnd ticket (HasCall state)
-StandsWith ticket voucher (Read ok) state = IsSomeAnd ticket (HasCall state)
-StandsWith ticket voucher (Refused why) state = IsSomeAnd ticket (HasCall state)
-StandsWith ticket voucher Again state = IsSomeAnd ticket (HasCall state)
-StandsWith ticket voucher (Waiting place) state =
-    IsSomeAnd ticket (λ sent. IsSomeAnd voucher (WaitsWith place state sent))
+StandsWith reply_address witness Idle state = Unit {0}
+StandsWith reply_address witness Called state = IsSomeAnd reply_address (HasCall state)
+StandsWith reply_address witness Planning state = IsSomeAnd reply_address (HasCall state)
+StandsWith reply_address witness Reading state = IsSomeAnd reply_address (HasCall state)
+StandsWith reply_address witness (Read ok) state = IsSomeAnd reply_address (HasCall state)
+StandsWith reply_address witness (Refused why) state = IsSomeAnd reply_address (HasCall state)
+StandsWith reply_address witness Again state = IsSomeAnd reply_address (HasCall state)
+StandsWith reply_address witness (Waiting place) state =
+    IsSomeAnd reply_address (λ sent. IsSomeAnd witness (WaitsWith place state sent))
 
 -- A worker that was handed a job: what it has is the job's, and it waits only for the place of the job's change.
-pub record IsSeated (worker : State) (errand : Errand) : Type 0 where
+pub record IsSeated (worker : State) (in_flight : CallInFlight) : Type 0 where
   pub entry : worker.work.entry ≡ None
   pub given : worker.work.answer ≡ None
-  pub stands : StandsWith errand.ticket errand.voucher worker.phase worker
+  pub stands : StandsWith in_flight.reply_address in_flight.witness worker.phase worker

@@ -2,16 +2,16 @@
 ghost use Rattle.std.specs.Prelude.{◌≡◌, ◌+◌};
 ghost use Rattle.disk.specs.declared.block.Side.TheVariants.{Home, Log};
 
-mod beginning;
-mod ending;
-mod look;
+mod shutdown;
+mod startup;
 mod steps;
+mod summary;
 
-pub(crate) use beginning::Begun;
-pub use look::Look;
 use procs::Done;
+pub(crate) use startup::Begun;
 use std::sync::ledger::{Book, Ledger};
 pub use steps::{installer_step, logger_step, worker_step};
+pub use summary::CoreSummary;
 use txn::Core;
 use wal_calls::Whole;
 

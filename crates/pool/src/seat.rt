@@ -1,7 +1,7 @@
 //! Where a worker sits.
 ghost use Rattle.std.specs.Prelude.{◌≡◌, ◌<◌};
 
-use crate::Told;
+use crate::StepResult;
 use crate::work::Work;
 use nfs_types::Moment;
 use pool_requests::{Answer, Job};
@@ -23,7 +23,8 @@ impl<L: Ledger, S> Seat<L, S> {
     ghost use Rattle.std.specs.Prelude.{◌≡◌, ◌<◌, ◌↔◌, IsTrue, IsErr, IfErr, IfSome, OnOk, None};
     ghost use Rattle.nfs_spec.specs.Model.Sound.{SoundTime};
     ghost use Rattle.pool_requests.specs.Answers.Evident.{IsEvident};
-    ghost use Rattle.pool.specs.Stepping.{IsFree, seated, with_job};
+    ghost use Rattle.pool.specs.Stepping.{IsFree, Plans, seated, with_job};
+    ghost use Rattle.store_workers.specs.Prepared.{plans_long};
     ghost use Rattle.store_workers.specs.SourceReads.{place_awaited};
     ghost use Rattle.store_workers.specs.declared.workers.parts.Phase.TheVariants.{Reading};
 
@@ -74,20 +75,35 @@ impl<L: Ledger, S> Seat<L, S> {
         self.work.is_due()
     }
 
-    /// What its last step was told.
-    pub fn told(&self) -> Told
-        ensures { result ≡ self.now.work.told }
+    /// Whether its next step is one of a plan that may take long.
+    pub fn plans_long(&self) -> bool
+        ensures { result ≡ plans_long self.now.work.worker }
     {
-        self.work.told()
+        self.work.plans_long()
+    }
+
+    /// Makes the plan of its next step, where that is one of a plan, without the lock: so the step only goes by it.
+    pub fn plan(&mut self, alloc: Global)
+        ensures work { Plans self.old.work self.new.work }
+        ensures rest { (self.new.share ≡ self.old.share) × (self.new.source ≡ self.old.source) }
+    {
+        self.work.plan(alloc);
+    }
+
+    /// What its last step was told.
+    pub fn step_result(&self) -> StepResult
+        ensures { result ≡ self.now.work.step_result }
+    {
+        self.work.step_result()
     }
 
     /// Takes the answer that lies ready, which shows that it may be given: the reply of the job's own change, which
     /// was committed, and is settled where it has to be; or one of the three in its place, or the reply to a call that
     /// begins no transaction.
     pub fn take_answer(&mut self) -> Option<Answer<L>>
-        ensures answer { result ≡ self.old.work.errand.answer }
+        ensures answer { result ≡ self.old.work.in_flight.answer }
         ensures taken { self.new.work ≡ record self.old.work {
-          errand = record self.old.work.errand { answer = None };
+          in_flight = record self.old.work.in_flight { answer = None };
         } }
         ensures evident { IfSome result IsEvident }
         ensures rest { (self.new.share ≡ self.old.share) × (self.new.source ≡ self.old.source) }

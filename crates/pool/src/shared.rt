@@ -9,7 +9,7 @@ ghost use Rattle.txn.specs.Core.{CoreState};
 ghost use Rattle.circ.specs.Log.Installer.{may_install};
 ghost use Rattle.circ.specs.Log.Logger.{may_log};
 
-use crate::{Locked, Look, Seat, installer_step, logger_step, worker_step};
+use crate::{CoreSummary, Locked, Seat, installer_step, logger_step, worker_step};
 use disk::{Port, Side};
 use procs::Done;
 use std::alloc::Global;
@@ -38,7 +38,7 @@ impl<L: Ledger, G: Whole, I: Whole> Shared<L, G, I> {
         ensures step { (before : CoreState) × (after : CoreState) × IsLawful before × IsLawful after
             × (seat.old.share.amount ≤ before.log.places)
             × HasStepped seat.old.work before result seat.new.work after }
-        ensures share { seat.new.share.amount ≡ seat.old.share.amount + grown seat.new.work.told }
+        ensures share { seat.new.share.amount ≡ seat.old.share.amount + grown seat.new.work.step_result }
         ensures parts { seat.new.share.parts ≡ seat.old.share.parts }
         ensures source { seat.new.source ≡ seat.old.source }
     {
@@ -73,10 +73,10 @@ impl<L: Ledger, G: Whole, I: Whole> Shared<L, G, I> {
     }
 
     /// How far the core is, which it leaves as it is.
-    pub fn look<R: Wait>(&self, rt: &R) -> Look
+    pub fn summary<R: Wait>(&self, rt: &R) -> CoreSummary
         ensures { (at : CoreState) × IsLawful at × LooksAt at result }
     {
-        self.lock.lock(rt).look()
+        self.lock.lock(rt).summary()
     }
 
     /// Ends a seat: what its worker has begun is given back, and what it was to answer is lost.

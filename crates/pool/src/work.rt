@@ -1,22 +1,22 @@
 //! A worker with its job.
 ghost use Rattle.std.specs.Prelude.{◌≡◌, Option, Some};
-ghost use Rattle.pool.specs.Stepping.{told_by, told_commit, told_wish, turn_by};
-ghost use Rattle.store_workers.specs.Telling.{told};
-ghost use Rattle.store_workers.specs.Vouched.{Vouches};
-ghost use Rattle.store_workers.specs.WorkerSteps.{GoesOn, side};
+ghost use Rattle.pool.specs.Stepping.{result_of_step, result_of_commit, result_of_lock_answer, turn_by};
+ghost use Rattle.store_workers.specs.RunReports.{reported};
+ghost use Rattle.store_workers.specs.Witnessed.{WitnessesCommit};
+ghost use Rattle.store_workers.specs.WorkerSteps.{GoesOn, worker_and_core};
 ghost use Rattle.store_workers.specs.declared.workers.parts.State.{State};
 
-use crate::Told;
-use crate::errand::Errand;
+use crate::StepResult;
+use crate::in_flight::CallInFlight;
 use disk::Source;
 use nfs_types::Moment;
 use pool_requests::{Answer, Job};
-use procs::{Done, Voucher};
+use procs::{CommitWitness, Done};
 use std::alloc::Global;
 use std::marker::Model;
 use std::mem;
 use std::sync::ledger::{Ledger, Share};
-use store_promise::{CallAnswer, Committing, Step, Wish};
+use store_promise::{CallAnswer, Committing, LockAnswer, Step};
 use store_workers::Worker;
 use txn::{Core, Seq};
 use wal_calls::Turn;
@@ -25,8 +25,8 @@ use wal_calls::Turn;
 /// job's, and that it waits only for the place of the job's own change.
 pub struct Work<L: Ledger> {
     worker: Worker,
-    errand: Errand<L>,
-    told: Told,
+    in_flight: CallInFlight<L>,
+    step_result: StepResult,
 }
 
 impl<L: Ledger> Model for Work<L> {
@@ -34,11 +34,11 @@ impl<L: Ledger> Model for Work<L> {
 
     ghost Value = { Working };
 
-    ghost view = { λ w. record { worker = w.worker.state; errand = w.errand; told = w.told } };
+    ghost view = { λ w. record { worker = w.worker.state; in_flight = w.in_flight; step_result = w.step_result } };
 
     ghost use Rattle.pool.specs.Seated.{IsSeated};
 
-    ghost invariant = { λ w. IsSeated w.worker.state w.errand };
+    ghost invariant = { λ w. IsSeated w.worker.state w.in_flight };
 }
 
 impl<L: Ledger> Work<L> {
@@ -46,7 +46,8 @@ impl<L: Ledger> Work<L> {
     ghost use Rattle.nfs_spec.specs.Model.Sound.{SoundTime};
     ghost use Rattle.pool_requests.specs.Answers.Evident.{IsEvident};
     ghost use Rattle.wal_calls.specs.Seats.Sides.{HandsOutNone};
-    ghost use Rattle.pool.specs.Stepping.{HasStepped, IsFree, ReadsFrom, grown, seated, with_job};
+    ghost use Rattle.pool.specs.Stepping.{HasStepped, IsFree, Plans, ReadsFrom, grown, seated, with_job};
+    ghost use Rattle.store_workers.specs.Prepared.{plans_long};
     ghost use Rattle.store_workers.specs.SourceReads.{place_awaited};
     ghost use Rattle.store_workers.specs.Ended.{GivesAllBack};
     ghost use Rattle.store_workers.specs.declared.workers.parts.Phase.TheVariants.{Reading};
@@ -57,8 +58,8 @@ impl<L: Ledger> Work<L> {
     {
         Work {
             worker: Worker::new(alloc),
-            errand: Errand::none(),
-            told: Told::Nothing,
+            in_flight: CallInFlight::none(),
+            step_result: StepResult::Nothing,
         }
     }
 
@@ -66,7 +67,7 @@ impl<L: Ledger> Work<L> {
     pub(crate) fn is_free(&self) -> bool
         ensures { IsTrue result ↔ IsFree self.now }
     {
-        self.worker.is_idle() && self.errand.answer.is_none()
+        self.worker.is_idle() && self.in_flight.answer.is_none()
     }
 
     /// Hands it a job at this moment, of less than a second of nanoseconds. One that isn't free gives the job back.
@@ -79,14 +80,14 @@ impl<L: Ledger> Work<L> {
         if !self.is_free() {
             return Err(job);
         }
-        let (ticket, credential, call) = job.take_up(moment);
-        let errand = Errand {
-            ticket: Some(ticket),
-            voucher: None,
+        let (reply_address, credential, call) = job.take_up(moment);
+        let in_flight = CallInFlight {
+            reply_address: Some(reply_address),
+            witness: None,
             answer: None,
         };
-        drop(mem::replace(&mut self.errand, errand));
-        self.told = Told::Nothing;
+        drop(mem::replace(&mut self.in_flight, in_flight));
+        self.step_result = StepResult::Nothing;
         self.worker.hand(credential, moment, call);
         Ok(())
     }
@@ -106,19 +107,19 @@ impl<L: Ledger> Work<L> {
     }
 
     /// What its last step was told.
-    pub(crate) fn told(&self) -> Told
-        ensures { result ≡ self.now.told }
+    pub(crate) fn step_result(&self) -> StepResult
+        ensures { result ≡ self.now.step_result }
     {
-        self.told
+        self.step_result
     }
 
     /// Takes the answer that lies ready.
     pub(crate) fn take_answer(&mut self) -> Option<Answer<L>>
-        ensures answer { result ≡ self.old.errand.answer }
-        ensures rest { self.new ≡ record self.old { errand = record self.old.errand { answer = None } } }
+        ensures answer { result ≡ self.old.in_flight.answer }
+        ensures rest { self.new ≡ record self.old { in_flight = record self.old.in_flight { answer = None } } }
         ensures evident { IfSome result IsEvident }
     {
-        let answer = self.errand.answer.take();
+        let answer = self.in_flight.answer.take();
         if let Some(answer) = answer.as_ref() {
             answer.evident();
         }
@@ -133,17 +134,31 @@ impl<L: Ledger> Work<L> {
         self.worker.read_from(source).is_some()
     }
 
+    /// Whether the next step is one of a plan that may take long.
+    pub(crate) fn plans_long(&self) -> bool
+        ensures { result ≡ plans_long self.now.worker }
+    {
+        self.worker.plans_long()
+    }
+
+    /// Makes the plan of the worker's next step, where that is one of a plan.
+    pub(crate) fn plan(&mut self, alloc: Global)
+        ensures { Plans self.old self.new }
+    {
+        self.worker.plan(alloc);
+    }
+
     /// Makes the worker's next step, by the seat's share of the ledger of commits.
     pub(crate) fn step(&mut self, alloc: Global, core: &mut Core<Done>, share: &Share<L>) -> Turn
         ensures step { HasStepped self.old core.old result self.new core.new }
-        ensures places { core.new.log.places ≡ core.old.log.places + grown self.new.told }
+        ensures places { core.new.log.places ≡ core.old.log.places + grown self.new.step_result }
         ensures calls { HandsOutNone core.old core.new }
     {
         let (made, given, shown) = advance(alloc, core, &mut self.worker);
-        let errand = mem::replace(&mut self.errand, Errand::none());
-        let errand = errand.after(core, &made, shown, given, share);
-        drop(mem::replace(&mut self.errand, errand));
-        self.told = told_by(&made);
+        let in_flight = mem::replace(&mut self.in_flight, CallInFlight::none());
+        let in_flight = in_flight.after(core, &made, shown, given, share);
+        drop(mem::replace(&mut self.in_flight, in_flight));
+        self.step_result = result_of_step(&made);
         turn_by(&made)
     }
 
@@ -153,8 +168,8 @@ impl<L: Ledger> Work<L> {
     {
         let Work {
             worker,
-            errand: _,
-            told: _,
+            in_flight: _,
+            step_result: _,
         } = self;
         worker.end(core);
     }
@@ -165,46 +180,47 @@ fn advance(
     alloc: Global,
     core: &mut Core<Done>,
     worker: &mut Worker,
-) -> (Option<Step>, Option<CallAnswer>, Option<Voucher>)
+) -> (Option<Step>, Option<CallAnswer>, Option<CommitWitness>)
     ensures { (state : State)
-        × GoesOn worker.old.state.phase (side worker.old.state core.old) result.0 (side state core.new)
-        × (worker.new.state ≡ told state) × (result.1 ≡ state.work.answer)
-        × Vouches result.0 state result.2 }
+        × GoesOn worker.old.state.phase (worker_and_core worker.old.state core.old) result.0 (worker_and_core state core.new)
+        × (worker.new.state ≡ reported state) × (result.1 ≡ state.work.answer)
+        × WitnessesCommit result.0 state result.2 }
 {
-    let (made, shown) = worker.step_vouched(alloc, core);
+    let (made, shown) = worker.step_witnessed(alloc, core);
     let given = worker.take_answer();
     (made, given, shown)
 }
 
 // What a step was told.
-fn told_by(made: &Option<Step>) -> Told
-    ensures { result ≡ told_by made.now }
+fn result_of_step(made: &Option<Step>) -> StepResult
+    ensures { result ≡ result_of_step made.now }
 {
     match made {
-        Some(Step::Wanted(_, _, wish)) => told_wish(*wish),
-        Some(Step::Claimed(_, wish)) => told_wish(*wish),
-        Some(Step::Commit(_, ended)) => told_commit(*ended),
-        _ => Told::Nothing,
+        Some(Step::Wanted(_, _, lock_answer)) => result_of_lock_answer(*lock_answer),
+        Some(Step::Claimed(_, lock_answer)) => result_of_lock_answer(*lock_answer),
+        Some(Step::Commit(_, ended)) => result_of_commit(*ended),
+        _ => StepResult::Nothing,
     }
 }
 
-fn told_wish(wish: Wish) -> Told
-    ensures { result ≡ told_wish wish }
+fn result_of_lock_answer(lock_answer: LockAnswer) -> StepResult
+    ensures { result ≡ result_of_lock_answer lock_answer }
 {
-    match wish {
-        Wish::Busy | Wish::Loading => Told::KeptOff,
-        Wish::Held | Wish::Fetch | Wish::Outside | Wish::NoMemory => Told::Nothing,
+    match lock_answer {
+        LockAnswer::Busy | LockAnswer::Loading => StepResult::LockDeferred,
+        LockAnswer::Held | LockAnswer::Fetch | LockAnswer::Outside | LockAnswer::NoMemory =>
+            StepResult::Nothing,
     }
 }
 
-fn told_commit(ended: Committing) -> Told
-    ensures { result ≡ told_commit ended }
+fn result_of_commit(ended: Committing) -> StepResult
+    ensures { result ≡ result_of_commit ended }
 {
     match ended {
-        Committing::Committed(_) => Told::Committed,
-        Committing::Full => Told::Full,
-        Committing::Foreign | Committing::NoMemory => Told::Nothing,
-        Committing::Broken | Committing::Spent => Told::Nothing,
+        Committing::Committed(_) => StepResult::Committed,
+        Committing::Full => StepResult::Full,
+        Committing::Foreign | Committing::NoMemory => StepResult::Nothing,
+        Committing::Broken | Committing::Spent => StepResult::Nothing,
     }
 }
 

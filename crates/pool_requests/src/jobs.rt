@@ -4,13 +4,13 @@
 mod connections;
 mod immediate;
 mod job;
-mod receiving;
+mod received;
+mod reply_address;
 mod stream;
-mod ticket;
 
 pub use connections::{Bearer, ConnectionKey, Connections};
 pub use immediate::Immediate;
 pub use job::Job;
-pub use receiving::Received;
+pub use received::Received;
+pub use reply_address::ReplyAddress;
 pub use stream::Stream;
-pub use ticket::Ticket;

@@ -9,4 +9,6 @@ pub use answers::{
     Answer, Backlog, Evidence, Put, ReplyBytes, a_reply_answers_one_procedure,
     an_answer_is_one_that_its_call_may_get,
 };
-pub use jobs::{Bearer, ConnectionKey, Connections, Immediate, Job, Received, Stream, Ticket};
+pub use jobs::{
+    Bearer, ConnectionKey, Connections, Immediate, Job, Received, ReplyAddress, Stream,
+};

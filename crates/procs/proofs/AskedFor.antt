@@ -16,8 +16,8 @@ use Rattle.layout.specs.Version.{has_double}
 use Rattle.layout.proofs.AllNumbers.{map_is}
 use Rattle.layout.proofs.Respelled.{all_four}
 use Rattle.inode.specs.declared.snap.Snap.{Snap}
-use Rattle.inode.specs.declared.stop.Stop.{Stop}
-use Rattle.inode.specs.declared.stop.Stop.TheVariants.{Need, Claim, Io, NoMemory}
+use Rattle.inode.specs.declared.suspend.Suspend.{Suspend}
+use Rattle.inode.specs.declared.suspend.Suspend.TheVariants.{Need, Claim, Io, NoMemory}
 use Rattle.inode.specs.Read.{IsAskedInode, WasReadInode}
 use Rattle.inode.proofs.AllTests.{all_two}
 use Rattle.inode.proofs.InodeThere.{data_of}
@@ -64,14 +64,14 @@ names_data g one good some =
 
 -- ---- so what a plan stops for is an object
 
-pub asks_inode : (snap : Snap) (number : ℕ) → number < snap.geometry.inodes → (why : Stop)
+pub asks_inode : (snap : Snap) (number : ℕ) → number < snap.geometry.inodes → (why : Suspend)
     → IsAskedInode snap.geometry number why → IsAsked snap why
 asks_inode snap number within (Need addr mode) at = inode number within at.block at.offset at.len
 asks_inode snap number within (Claim block) at = absurd at
 asks_inode snap number within Io at = tt
 asks_inode snap number within NoMemory at = tt
 
-pub far_data : (snap : Snap) (number : ℕ) (one : Inode) → WasReadInode snap.geometry snap.objects.items number one
+pub indirect_data : (snap : Snap) (number : ℕ) (one : Inode) → WasReadInode snap.geometry snap.objects.items number one
     → (one.indirect ≡ 0 → ⊥) → is_data snap.geometry one.indirect ≡ true
-far_data snap number one read some =
+indirect_data snap number one read some =
     names_data snap.geometry one (read_sound snap.geometry read.bytes one read.is_inode) some

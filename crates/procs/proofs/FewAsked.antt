@@ -17,7 +17,7 @@ use Rattle.layout.specs.declared.inode.Inode.{Inode}
 use Rattle.layout.proofs.OnGrid.{key_below, key_of, one_key}
 use Rattle.txn.specs.Object.{ObjectBytes}
 use Rattle.inode.specs.Snap.{is_among, is_had, is_seen, same_addr, with_mode, with_read}
-use Rattle.inode.proofs.HadAlone.{itself, one_addr}
+use Rattle.inode.proofs.HadExclusive.{itself, one_addr}
 use Rattle.procs.specs.Asks.{Asks, WereAskedOnce}
 use Rattle.procs.specs.MostAsked.{most_asked, times_asked}
 
@@ -142,71 +142,71 @@ module _ (g : Geometry) where
       (all_below objects were.asked))
 
   -- each at most twice
-  twice : (objects : List ObjectBytes) (alone : List Addr) → times_asked objects alone ≤ 2 * length objects
-  twice [] alone = omega arith
-  twice (object ∷ objects) alone = by (is_among object.addr alone) (twice objects alone)
+  twice : (objects : List ObjectBytes) (exclusives : List Addr) → times_asked objects exclusives ≤ 2 * length objects
+  twice [] exclusives = omega arith
+  twice (object ∷ objects) exclusives = by (is_among object.addr exclusives) (twice objects exclusives)
     where
-      by : (t : Bool) → times_asked objects alone ≤ 2 * length objects
-          → (if t then 2 else 1) + times_asked objects alone ≤ 2 * suc (length objects)
+      by : (t : Bool) → times_asked objects exclusives ≤ 2 * length objects
+          → (if t then 2 else 1) + times_asked objects exclusives ≤ 2 * suc (length objects)
       by true rest = omega (arith, rest)
       by false rest = omega (arith, rest)
 
-  pub few_times : (objects : List ObjectBytes) (alone : List Addr) → WereAskedOnce g objects
-      → times_asked objects alone ≤ 2 * most_asked g.blocks
-  few_times objects alone were =
+  pub few_times : (objects : List ObjectBytes) (exclusives : List Addr) → WereAskedOnce g objects
+      → times_asked objects exclusives ≤ 2 * most_asked g.blocks
+  few_times objects exclusives were =
       let most = few objects were in
-      let times = twice objects alone in omega (arith, most, times)
+      let times = twice objects exclusives in omega (arith, most, times)
 
 -- ---- each time counts
 
-among_more : (a addr : Addr) (alone : List Addr)
-    → is_among a (alone ++ addr ∷ []) ≡ (is_among a alone || (same_addr a addr || false))
-among_more a addr alone = list_any-append (λ (other : Addr). same_addr a other) alone (addr ∷ [])
+among_more : (a addr : Addr) (exclusives : List Addr)
+    → is_among a (exclusives ++ addr ∷ []) ≡ (is_among a exclusives || (same_addr a addr || false))
+among_more a addr exclusives = list_any-append (λ (other : Addr). same_addr a other) exclusives (addr ∷ [])
 
 -- one that is among more addresses counts no less
-no_less : (a addr : Addr) (alone : List Addr)
-    → (if is_among a alone then 2 else 1) ≤ (if is_among a (alone ++ addr ∷ []) then 2 else 1)
-no_less a addr alone =
-    subst (λ (b : Bool). (if is_among a alone then 2 else 1) ≤ (if b then 2 else 1)) (sym (among_more a addr alone))
-    (by (is_among a alone) (same_addr a addr))
+no_less : (a addr : Addr) (exclusives : List Addr)
+    → (if is_among a exclusives then 2 else 1) ≤ (if is_among a (exclusives ++ addr ∷ []) then 2 else 1)
+no_less a addr exclusives =
+    subst (λ (b : Bool). (if is_among a exclusives then 2 else 1) ≤ (if b then 2 else 1)) (sym (among_more a addr exclusives))
+    (by (is_among a exclusives) (same_addr a addr))
   where
     by : (was here : Bool) → (if was then 2 else 1) ≤ (if was || (here || false) then 2 else 1)
     by true here = omega arith
     by false true = omega arith
     by false false = omega arith
 
-as_often : (addr : Addr) (alone : List Addr) (objects : List ObjectBytes)
-    → times_asked objects alone ≤ times_asked objects (alone ++ addr ∷ [])
-as_often addr alone [] = omega arith
-as_often addr alone (object ∷ objects) =
-    let first = no_less object.addr addr alone in
-    let rest = as_often addr alone objects in
+as_often : (addr : Addr) (exclusives : List Addr) (objects : List ObjectBytes)
+    → times_asked objects exclusives ≤ times_asked objects (exclusives ++ addr ∷ [])
+as_often addr exclusives [] = omega arith
+as_often addr exclusives (object ∷ objects) =
+    let first = no_less object.addr addr exclusives in
+    let rest = as_often addr exclusives objects in
     sums _ _ _ _ first rest
   where
     sums : (a b c d : ℕ) → a ≤ b → c ≤ d → a + c ≤ b + d
     sums a b c d one two = omega (arith, one, two)
 
 -- an object that was read, and is asked for alone now
-once_more : (addr : Addr) (alone : List Addr) (objects : List ObjectBytes) → is_seen addr objects ≡ true
-    → is_among addr alone ≡ false
-    → times_asked objects alone < times_asked objects (alone ++ addr ∷ [])
-once_more addr alone [] none new = cc
-once_more addr alone (object ∷ objects) some new =
-    by (same_addr addr object.addr) refl some (once_more addr alone objects)
+once_more : (addr : Addr) (exclusives : List Addr) (objects : List ObjectBytes) → is_seen addr objects ≡ true
+    → is_among addr exclusives ≡ false
+    → times_asked objects exclusives < times_asked objects (exclusives ++ addr ∷ [])
+once_more addr exclusives [] none new = cc
+once_more addr exclusives (object ∷ objects) some new =
+    by (same_addr addr object.addr) refl some (once_more addr exclusives objects)
   where
     by : (t : Bool) → same_addr addr object.addr ≡ t → (t || is_seen addr objects) ≡ true
-        → (is_seen addr objects ≡ true → is_among addr alone ≡ false
-        → times_asked objects alone < times_asked objects (alone ++ addr ∷ []))
-        → times_asked (object ∷ objects) alone < times_asked (object ∷ objects) (alone ++ addr ∷ [])
+        → (is_seen addr objects ≡ true → is_among addr exclusives ≡ false
+        → times_asked objects exclusives < times_asked objects (exclusives ++ addr ∷ []))
+        → times_asked (object ∷ objects) exclusives < times_asked (object ∷ objects) (exclusives ++ addr ∷ [])
     by true same some rest =
         let same_one = one_addr addr object.addr same in
-        let was : is_among object.addr alone ≡ false =
-        ap (λ (a : Addr). is_among a alone) (sym same_one) ∙ new in
-        let now : is_among object.addr (alone ++ addr ∷ []) ≡ true =
-        ap (λ (a : Addr). is_among a (alone ++ addr ∷ [])) (sym same_one) ∙ among_more addr addr alone
-        ∙ at_last (is_among addr alone) (same_addr addr addr) (itself addr) in
-        more (is_among object.addr alone) (is_among object.addr (alone ++ addr ∷ [])) _ _ was now
-        (as_often addr alone objects)
+        let was : is_among object.addr exclusives ≡ false =
+        ap (λ (a : Addr). is_among a exclusives) (sym same_one) ∙ new in
+        let now : is_among object.addr (exclusives ++ addr ∷ []) ≡ true =
+        ap (λ (a : Addr). is_among a (exclusives ++ addr ∷ [])) (sym same_one) ∙ among_more addr addr exclusives
+        ∙ at_last (is_among addr exclusives) (same_addr addr addr) (itself addr) in
+        more (is_among object.addr exclusives) (is_among object.addr (exclusives ++ addr ∷ [])) _ _ was now
+        (as_often addr exclusives objects)
       where
         at_last : (a b : Bool) → b ≡ true → (a || (b || false)) ≡ true
         at_last true b is = refl
@@ -219,43 +219,43 @@ once_more addr alone (object ∷ objects) some new =
         more true b c d a_is b_is less = cc
         more false false c d a_is b_is less = cc
     by false other some rest =
-        let first = no_less object.addr addr alone in
+        let first = no_less object.addr addr exclusives in
         let later = rest some new in less _ _ _ _ first later
       where
         less : (a b c d : ℕ) → a ≤ b → c < d → a + c < b + d
         less a b c d one two = omega (arith, one, two)
 
-times_more : (objects : List ObjectBytes) (one : ObjectBytes) (alone : List Addr)
-    → times_asked objects alone < times_asked (objects ++ one ∷ []) alone
-times_more [] one alone = by (is_among one.addr alone)
+times_more : (objects : List ObjectBytes) (one : ObjectBytes) (exclusives : List Addr)
+    → times_asked objects exclusives < times_asked (objects ++ one ∷ []) exclusives
+times_more [] one exclusives = by (is_among one.addr exclusives)
   where
     by : (t : Bool) → 0 < (if t then 2 else 1) + 0
     by true = omega arith
     by false = omega arith
-times_more (object ∷ objects) one alone = less _ _ _ (times_more objects one alone)
+times_more (object ∷ objects) one exclusives = less _ _ _ (times_more objects one exclusives)
   where
     less : (a c d : ℕ) → c < d → a + c < a + d
     less a c d two = omega (arith, two)
 
-pub asked_more : (addr : Addr) (mode : Mode) (bytes : List ℕ) (objects : List ObjectBytes) (alone : List Addr)
-    → is_had addr mode objects alone ≡ false
-    → times_asked objects alone < times_asked (with_read addr bytes objects) (with_mode addr mode alone)
-asked_more addr modes.Shared bytes objects alone none =
-    subst (λ (b : Bool). times_asked objects alone < times_asked (if b then objects
-    else objects ++ record { addr = addr; bytes = bytes } ∷ []) alone) (sym none)
-    (times_more objects (record { addr = addr; bytes = bytes }) alone)
-asked_more addr modes.Exclusive bytes objects alone none = by (is_seen addr objects) refl none
+pub asked_more : (addr : Addr) (mode : Mode) (bytes : List ℕ) (objects : List ObjectBytes) (exclusives : List Addr)
+    → is_had addr mode objects exclusives ≡ false
+    → times_asked objects exclusives < times_asked (with_read addr bytes objects) (with_mode addr mode exclusives)
+asked_more addr modes.Shared bytes objects exclusives none =
+    subst (λ (b : Bool). times_asked objects exclusives < times_asked (if b then objects
+    else objects ++ record { addr = addr; bytes = bytes } ∷ []) exclusives) (sym none)
+    (times_more objects (record { addr = addr; bytes = bytes }) exclusives)
+asked_more addr modes.Exclusive bytes objects exclusives none = by (is_seen addr objects) refl none
   where
     one : ObjectBytes
     one = record { addr = addr; bytes = bytes }
 
-    by : (t : Bool) → is_seen addr objects ≡ t → (t && is_among addr alone) ≡ false
-        → times_asked objects alone
-        < times_asked (if t then objects else objects ++ one ∷ []) (alone ++ addr ∷ [])
-    by true is none = once_more addr alone objects is none
+    by : (t : Bool) → is_seen addr objects ≡ t → (t && is_among addr exclusives) ≡ false
+        → times_asked objects exclusives
+        < times_asked (if t then objects else objects ++ one ∷ []) (exclusives ++ addr ∷ [])
+    by true is none = once_more addr exclusives objects is none
     by false is none =
-        let first = as_often addr alone objects in
-        let later = times_more objects one (alone ++ addr ∷ []) in together _ _ _ first later
+        let first = as_often addr exclusives objects in
+        let later = times_more objects one (exclusives ++ addr ∷ []) in together _ _ _ first later
       where
         together : (a b c : ℕ) → a ≤ b → b < c → a < c
         together a b c first later = omega (arith, first, later)

@@ -13,7 +13,7 @@ use Rattle.layout.specs.declared.geometry.Geometry.{Geometry}
 use Rattle.layout.specs.Objects.{whole}
 use Rattle.layout.specs.Places.{is_data}
 use Rattle.layout.proofs.OnGrid.{data_within}
-use Rattle.txn.specs.Wishes.{IsWhole}
+use Rattle.txn.specs.LockAnswers.{IsWhole}
 use Rattle.inode.specs.Snap.{is_claimed}
 use Rattle.procs.specs.Asks.{Asks, Claims, WereClaimedOnce}
 use Rattle.procs.specs.MostAsked.{most_claimed}

@@ -7,7 +7,7 @@ use Rattle.objects.specs.declared.addr.Addr.{Addr}
 use Rattle.txn.specs.Object.{ObjectBytes}
 use Rattle.inode.specs.Snap.{is_seen, with_read}
 use Rattle.inode.specs.declared.snap.Snap.{Snap}
-use Rattle.dir.specs.declared.search.names.Names.{Names}
+use Rattle.dir.specs.declared.search.call_names.Names.{Names}
 use Rattle.dir.specs.Search.Known.{IsKnown, IsOfCall}
 use Rattle.dir.proofs.SearchLemmas.Stays.{stays}
 use Rattle.procs.specs.Planning.{AreOf, IsKnownBy}

@@ -22,7 +22,7 @@ use Rattle.procs.specs.Outcome.{Outcome}
 use Rattle.procs.specs.Refused.{IsDoneWith, IsIoWhereRefused, IsRefusedBy, IsRefusedFile, NamesNoData}
 use Rattle.procs.specs.Refused.{NoneRead, NoneRefused, NoneRefusedIn, first_handle}
 use Rattle.procs.proofs.FewAsked.{some_same}
-use Rattle.procs.proofs.AskedFor.{far_data}
+use Rattle.procs.proofs.AskedFor.{indirect_data}
 use Rattle.objects.specs.declared.addr.Addr.{Addr}
 use Rattle.nfs_types.specs.declared.handle.Handle.{Handle}
 use Rattle.layout.specs.Places.{is_data}
@@ -97,12 +97,12 @@ module _ (g : Geometry) (blocks : Image) (handle : List ℕ) (number : ℕ) (sta
     ]
 
 -- an indirect block that names no data, with its inode, was read and is refused
-pub far_refused : (snap : Snap) (blocks : Image) (number : ℕ) (inode : Inode) (addr : Addr) (bytes : List ℕ)
+pub indirect_refused : (snap : Snap) (blocks : Image) (number : ℕ) (inode : Inode) (addr : Addr) (bytes : List ℕ)
     → number < snap.geometry.inodes → WasReadInode snap.geometry snap.objects.items number inode
     → inode_at snap.geometry blocks number ≡ Ok (Some inode) → is_data snap.geometry inode.indirect ≡ true
     → addr.block.0 ≡ inode.indirect → addr.offset ≡ 0 → addr.len ≡ BLOCK_BYTES
     → WasRead snap.objects.items addr bytes → NamesNoData snap.geometry blocks inode → IsRefused snap blocks
-far_refused snap blocks number inode addr bytes less inode_read is lies block offset len far_read names = record {
+indirect_refused snap blocks number inode addr bytes less inode_read is lies block offset len indirect_read names = record {
   number = number;
   addr = inode_read.addr;
   at =
@@ -116,7 +116,7 @@ far_refused snap blocks number inode addr bytes less inode_read is lies block of
       block = block;
       offset = offset;
       len = len;
-      read = seen_of addr far_read.object snap.objects.items far_read.there far_read.at;
+      read = seen_of addr indirect_read.object snap.objects.items indirect_read.there indirect_read.at;
       whole = names.whole;
     };
     names = names.refused;
@@ -128,7 +128,7 @@ pub no_data_none : (snap : Snap) (blocks : Image) (number : ℕ) (inode : Inode)
     → WasReadInode snap.geometry snap.objects.items number inode → is_data snap.geometry inode.indirect ≡ false
     → NamesNoData snap.geometry blocks inode → ⊥
 no_data_none snap blocks number inode read not names =
-    never (sym (far_data snap number inode read names.some) ∙ not)
+    never (sym (indirect_data snap number inode read names.some) ∙ not)
 
 pub none_in : (asked : Call) (snap : Snap) (handle : Handle) → first_handle asked ≡ Some handle
     → NoneRefused snap handle.bytes → NoneRefusedIn snap asked

@@ -15,12 +15,12 @@ use Rattle.procs.specs.Outcome.{Outcome}
 use Rattle.procs.specs.Steps.{IsStepOf}
 
 -- a step that writes nothing leads to the same tree
-pub unwritten : (g : Geometry) (ctx : Ctx) (c : Call) (done : Outcome) (items : List ObjectBytes) (told : Reply)
-    → done.read ≡ items → done.reply ≡ told → done.written ≡ []
+pub unwritten : (g : Geometry) (ctx : Ctx) (c : Call) (done : Outcome) (items : List ObjectBytes) (response : Reply)
+    → done.read ≡ items → done.reply ≡ response → done.written ≡ []
     → ((blocks : Image) (tree : Tree) → Stands g blocks tree → AreAsRead blocks items
-    → step tree ctx c told tree)
+    → step tree ctx c response tree)
     → IsStepOf g ctx c done
-unwritten g ctx c done items told read_is reply_is written_is steps = λ blocks tree sound stands read. (
+unwritten g ctx c done items response read_is reply_is written_is steps = λ blocks tree sound stands read. (
   tree,
   subst (λ r. step tree ctx c r tree) (sym reply_is)
       (steps blocks tree stands (subst (AreAsRead blocks) read_is read)),

@@ -9,9 +9,9 @@ use Rattle.nfs_spec.specs.Procedures.Step.{numbered_step}
 use Rattle.nfs_spec.proofs.ProceduresLemmas.Numbers.{new_number}
 use Rattle.layout.proofs.Holding.{holds_of}
 use Rattle.inode.specs.declared.snap.Snap.{Snap}
-use Rattle.inode.specs.declared.stop.Stop.{Stop}
-use Rattle.inode.specs.declared.stop.Stop.TheVariants as stop
-use Rattle.inode.specs.Over.{IsOver, IsPause, MayStop}
+use Rattle.inode.specs.declared.suspend.Suspend.{Suspend}
+use Rattle.inode.specs.declared.suspend.Suspend.TheVariants as suspend
+use Rattle.inode.specs.Over.{IsOver, IsResumable, MaySuspend}
 use Rattle.inode.specs.Read.{NoneStand}
 use Rattle.inode.specs.Snap.{IsNew}
 use Rattle.procs.specs.Asks.{IsAsked}
@@ -19,13 +19,13 @@ use Rattle.procs.specs.Outcome.{IsDoneFor, Outcome}
 use Rattle.procs.specs.Steps.{IsStepOf}
 use Rattle.procs.proofs.StepsOf.{unwritten}
 
-pub told_is_step : (snap : Snap) (ctx : Ctx) (c : Call) (done : Outcome) (told : Reply)
-    → IsDoneFor snap done → done.reply ≡ told → done.written ≡ []
+pub query_is_step : (snap : Snap) (ctx : Ctx) (c : Call) (done : Outcome) (response : Reply)
+    → IsDoneFor snap done → done.reply ≡ response → done.written ≡ []
     → ((blocks : Image) (tree : Tree) (new : Option ℕ) → IsOver snap blocks tree
-    → numbered_step tree ctx new c told tree)
+    → numbered_step tree ctx new c response tree)
     → IsStepOf snap.geometry ctx c done
-told_is_step snap ctx c done told is_done reply_is written_is leads =
-    unwritten snap.geometry ctx c done snap.objects.items told is_done.read reply_is written_is
+query_is_step snap ctx c done response is_done reply_is written_is leads =
+    unwritten snap.geometry ctx c done snap.objects.items response is_done.read reply_is written_is
     (λ blocks tree stands saw.
     let number = new_number tree in
     record {
@@ -37,22 +37,22 @@ told_is_step snap ctx c done told is_done reply_is written_is leads =
 
 -- why it stops
 
-pub is_new : (snap : Snap) (why : Stop) → MayStop snap why → IsNew snap why
-is_new snap (stop.Need addr mode) may = may.0
-is_new snap (stop.Claim block) may = may.0
-is_new snap stop.Io may = tt
-is_new snap stop.NoMemory may = tt
+pub is_new : (snap : Snap) (why : Suspend) → MaySuspend snap why → IsNew snap why
+is_new snap (suspend.Need addr mode) may = may.0
+is_new snap (suspend.Claim block) may = may.0
+is_new snap suspend.Io may = tt
+is_new snap suspend.NoMemory may = tt
 
-pub is_asked : (snap : Snap) (why : Stop) → MayStop snap why → IsAsked snap why
-is_asked snap (stop.Need addr mode) may = may.1
-is_asked snap (stop.Claim block) may = may.1
-is_asked snap stop.Io may = tt
-is_asked snap stop.NoMemory may = tt
+pub is_asked : (snap : Snap) (why : Suspend) → MaySuspend snap why → IsAsked snap why
+is_asked snap (suspend.Need addr mode) may = may.1
+is_asked snap (suspend.Claim block) may = may.1
+is_asked snap suspend.Io may = tt
+is_asked snap suspend.NoMemory may = tt
 
-pub none_stand : (snap : Snap) (why : Stop)
-    → ((blocks : Image) (tree : Tree) → IsOver snap blocks tree → IsPause why) → NoneStand snap why
-none_stand snap (stop.Need addr mode) pauses = tt
-none_stand snap (stop.Claim block) pauses = tt
-none_stand snap stop.Io pauses = λ blocks tree holds saw.
-    pauses blocks tree (record { holds = holds; saw = saw })
-none_stand snap stop.NoMemory pauses = tt
+pub none_stand : (snap : Snap) (why : Suspend)
+    → ((blocks : Image) (tree : Tree) → IsOver snap blocks tree → IsResumable why) → NoneStand snap why
+none_stand snap (suspend.Need addr mode) resumes = tt
+none_stand snap (suspend.Claim block) resumes = tt
+none_stand snap suspend.Io resumes = λ blocks tree holds saw.
+    resumes blocks tree (record { holds = holds; saw = saw })
+none_stand snap suspend.NoMemory resumes = tt

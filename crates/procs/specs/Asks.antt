@@ -8,8 +8,8 @@ use Rattle.layout.specs.Objects.{IsObject}
 use Rattle.layout.specs.Places.{is_data}
 use Rattle.txn.specs.Object.{ObjectBytes}
 use Rattle.inode.specs.declared.snap.Snap.{Snap}
-use Rattle.inode.specs.declared.stop.Stop.{Stop}
-use Rattle.inode.specs.declared.stop.Stop.TheVariants as stop
+use Rattle.inode.specs.declared.suspend.Suspend.{Suspend}
+use Rattle.inode.specs.declared.suspend.Suspend.TheVariants as suspend
 use Rattle.inode.specs.Snap.{MayWrite, is_seen, is_claimed}
 
 -- what a plan may ask to read: an inode, 512 bytes of a bitmap, or a whole data block
@@ -37,11 +37,11 @@ pub record WereClaimedOnce (g : Geometry) (claims : List BlockNo) : Type 0 where
       → is_claimed block (take index claims) ≡ false
 
 -- what a plan stops for may be asked for
-abbrev pub IsAsked : Snap → Stop → Type 0
-IsAsked snap (stop.Need addr mode) = Asks snap.geometry addr
-IsAsked snap (stop.Claim block) = Claims snap.geometry block
-IsAsked snap stop.Io = Unit {0}
-IsAsked snap stop.NoMemory = Unit {0}
+abbrev pub IsAsked : Snap → Suspend → Type 0
+IsAsked snap (suspend.Need addr mode) = Asks snap.geometry addr
+IsAsked snap (suspend.Claim block) = Claims snap.geometry block
+IsAsked snap suspend.Io = Unit {0}
+IsAsked snap suspend.NoMemory = Unit {0}
 
 -- the object has an address that was read, or is a whole block that was claimed
 abbrev pub IsWritable : Snap → ObjectBytes → Type 0

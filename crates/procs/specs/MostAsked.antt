@@ -14,5 +14,5 @@ most_claimed blocks = blocks
 
 -- how often objects were asked for: each once, and once more if it was asked for alone
 abbrev pub times_asked : List ObjectBytes → List Addr → ℕ
-times_asked [] alone = 0
-times_asked (object ∷ objects) alone = (if is_among object.addr alone then 2 else 1) + times_asked objects alone
+times_asked [] exclusives = 0
+times_asked (object ∷ objects) exclusives = (if is_among object.addr exclusives then 2 else 1) + times_asked objects exclusives

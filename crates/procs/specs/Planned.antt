@@ -16,7 +16,7 @@ use Rattle.procs.specs.Steps.{IsStepOf}
 -- A plan asks for something new that plans may ask for, or is done with what was read, and changes no more blocks than a
 -- transaction may.
 abbrev pub IsPlanFor : Snap → Plan → Type 0
-IsPlanFor snap (plan.Need addr mode) = (is_had addr mode snap.objects.items snap.alone.items ≡ false)
+IsPlanFor snap (plan.Need addr mode) = (is_had addr mode snap.objects.items snap.exclusives.items ≡ false)
     × Asks snap.geometry addr
 IsPlanFor snap (plan.Claim block) = (is_claimed block snap.claims.items ≡ false) × Claims snap.geometry block
 IsPlanFor snap (plan.Done done) = EndsFrom snap done × ChangesFew CHANGED_BLOCKS done

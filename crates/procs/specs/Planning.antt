@@ -2,7 +2,7 @@
 use Rattle.std.specs.Prelude.{◌≡◌, Option, Some}
 use Rattle.nfs_types.specs.declared.call.Call.{Call}
 use Rattle.inode.specs.declared.snap.Snap.{Snap}
-use Rattle.dir.specs.declared.search.names.Names.{Names}
+use Rattle.dir.specs.declared.search.call_names.Names.{Names}
 use Rattle.dir.specs.Search.Known.{IsKnown, IsOfCall}
 
 -- what is known of them is so by what was read

@@ -2,8 +2,8 @@
 use Rattle.std.specs.Prelude.{◌≡◌, ◌≢◌, ℕ, ◌<◌, ◌⊎◌, false, List, [], Option, Some, None, Ok, Err, length}
 use Rattle.std.specs.List.{list_all}
 use Rattle.base.specs.declared.TheConstants.{BLOCK_BYTES, HANDLE_BYTES, INDIRECT_INDEXES}
+use Rattle.nfs_types.specs.CallFacts.{facts}
 use Rattle.nfs_types.specs.declared.call.Call.{Call}
-use Rattle.nfs_types.specs.declared.call.Call.TheVariants as call
 use Rattle.nfs_types.specs.declared.handle.Handle.{Handle}
 use Rattle.nfs_types.specs.declared.status.Status.TheVariants.{Io}
 use Rattle.disk.specs.Crash.{Image}
@@ -45,28 +45,7 @@ IsRefusedBy g blocks None = ⊥
 
 -- the handle of a call that is looked at first, if it has one
 abbrev pub first_handle : Call → Option Handle
-first_handle call.Null = None
-first_handle (call.GetAttr object) = Some object
-first_handle (call.SetAttr object attributes guard) = Some object
-first_handle (call.Lookup name) = Some name.directory
-first_handle (call.Access object bits) = Some object
-first_handle (call.ReadLink link) = Some link
-first_handle (call.Read file offset count) = Some file
-first_handle (call.Write file offset count stability bytes) = Some file
-first_handle (call.Create name how) = Some name.directory
-first_handle (call.MkDir name attributes) = Some name.directory
-first_handle (call.SymLink name attributes target) = Some name.directory
-first_handle (call.MkNod name special) = Some name.directory
-first_handle (call.Remove name) = Some name.directory
-first_handle (call.RmDir name) = Some name.directory
-first_handle (call.Rename source target) = Some source.directory
-first_handle (call.Link file name) = Some file
-first_handle (call.ReadDir directory cookie verifier count) = Some directory
-first_handle (call.ReadDirPlus directory cookie verifier directory_count greatest_count) = Some directory
-first_handle (call.FsStat object) = Some object
-first_handle (call.FsInfo object) = Some object
-first_handle (call.PathConf object) = Some object
-first_handle (call.Commit file offset count) = Some file
+first_handle asked = (facts asked).handle
 
 -- in these blocks the layout refuses the file of a call's first handle
 abbrev pub IsRefusedIn : Geometry → Image → Call → Type 0

@@ -8,8 +8,8 @@ use Rattle.layout.specs.Stands.{Stands}
 use Rattle.nfs_spec.specs.Model.Tree.{Tree}
 use Rattle.txn.specs.Window.{with_objects}
 use Rattle.inode.specs.declared.snap.Snap.{Snap}
-use Rattle.inode.specs.declared.stop.Stop.{Stop}
-use Rattle.inode.specs.declared.stop.Stop.TheVariants as stop
+use Rattle.inode.specs.declared.suspend.Suspend.{Suspend}
+use Rattle.inode.specs.declared.suspend.Suspend.TheVariants as suspend
 use Rattle.inode.specs.Read.{AreAsRead, Saw}
 use Rattle.procs.specs.Outcome.{Outcome}
 use Rattle.procs.specs.SoundCalls.{SoundCall}
@@ -24,9 +24,9 @@ IsStepOf g ctx call done = (blocks : Image) (tree : Tree) → SoundCall ctx.cred
     × Stands g (with_objects blocks done.written) next
 
 -- A plan failed, which it does for no blocks that stand for a tree, where the call can be spelled.
-abbrev pub NoneStandFor : Ctx → Call → Snap → Stop → Type 0
-NoneStandFor ctx call snap stop.Io = (blocks : Image) (tree : Tree)
+abbrev pub NoneStandFor : Ctx → Call → Snap → Suspend → Type 0
+NoneStandFor ctx call snap suspend.Io = (blocks : Image) (tree : Tree)
     → SoundCall ctx.credential ctx.moment call → Stands snap.geometry blocks tree → Saw blocks snap → ⊥
-NoneStandFor ctx call snap stop.NoMemory = Unit {0}
-NoneStandFor ctx call snap (stop.Need addr mode) = Unit {0}
-NoneStandFor ctx call snap (stop.Claim block) = Unit {0}
+NoneStandFor ctx call snap suspend.NoMemory = Unit {0}
+NoneStandFor ctx call snap (suspend.Need addr mode) = Unit {0}
+NoneStandFor ctx call snap (suspend.Claim block) = Unit {0}

@@ -1,25 +1,27 @@
 //! What a call asks for behind a run that stopped, without another. These are positions, of which nothing is claimed:
 //! the procedure is run again once all of it was read.
 ghost use Rattle.std.specs.Prelude.{◌≡◌, ◌≤◌, IfErr, IfSome};
-ghost use Rattle.inode.specs.declared.stop.Stop.TheVariants.{NoMemory};
+ghost use Rattle.inode.specs.declared.suspend.Suspend.TheVariants.{NoMemory};
 ghost use Rattle.base.specs.declared.TheConstants.{FILE_INDEXES};
-ghost use Rattle.inode.specs.Over.{MayStop};
-ghost use Rattle.nfs_spec.specs.Procedures.Listing.{entry_room};
+ghost use Rattle.inode.specs.Over.{MaySuspend};
+ghost use Rattle.nfs_spec.specs.Procedures.Listing.{listing_budget};
 
+use crate::above::Above;
 use crate::entering::Entering;
+use crate::first_file::first_handle;
+use crate::free_slots::behind_free_slots;
 use crate::freeing::Freeing;
 use crate::next::Plan;
 use crate::pieces::Pieces;
 use crate::pointers::{Pointers, ask_data, pointers_of};
-use crate::reading::first_handle;
 use crate::shrinking::{cut_at, cut_for, named, unnamed};
 use crate::writing::Writing;
 use base::{
-    BLOCK_BYTES, ENTRY_BYTES, ENTRY_PLUS_BYTES, LARGEST_FILE, LISTING_BYTES, LISTING_FRAME,
-    TRANSFER_BYTES,
+    BLOCK_BYTES, LARGEST_FILE, LISTED_ITEM_BYTES, LISTED_ITEM_PLUS_BYTES, LISTING_BYTES,
+    LISTING_FRAME, TRANSFER_BYTES,
 };
 use dir::{Names, next_name};
-use inode::{Snap, Stop, ask_block, held};
+use inode::{Snap, Suspend, ask_block, held};
 use layout::{Inode, InodeKind};
 use nfs_spec::{ITSELF_COOKIE, PARENT_COOKIE};
 use nfs_types::{Call, DirectoryName, Handle};
@@ -28,8 +30,8 @@ use procs_files::Files;
 use std::alloc::{AllocError, Global};
 
 /// Nothing; the blocks of a file that a READ asks for; what a WRITE asks for; what a name asks for that a directory
-/// gets; what the blocks ask for that a file frees; what a listing asks for; the bitmaps; or the pointer blocks of a
-/// file. It lies in a box, as it is long and each function that hands it on would copy it.
+/// gets; what the blocks ask for that a file frees; what a listing asks for; the bitmaps; the pointer blocks of a
+/// file; or the directories above one. It lies in a box, as it is long and each function that hands it on would copy it.
 #[derive(Drop)]
 pub(crate) enum Ahead {
     Nothing,
@@ -40,6 +42,7 @@ pub(crate) enum Ahead {
     Listing(Box<Listing>),
     Pieces(Pieces),
     Pointers(Box<Pointers>),
+    Above(Above),
 }
 
 /// The blocks of a file from an index on up to another.
@@ -60,17 +63,17 @@ pub(crate) struct Listing {
     besides: u32,
     tells: bool,
     from: u64,
-    names_room: u64,
+    names_budget: u64,
     room: u64,
     is_full: bool,
     numbers: Vec<u32>,
-    told: usize,
+    emitted: usize,
     pointers: Option<Pointers>,
 }
 
 // The pointer blocks of a file, if it has some of which something is told: those of a directory aren't looked at.
-fn told_pointers(snap: &Snap, number: u32) -> Result<Option<Pointers>, Stop>
-    ensures { IfErr result (λ why. MayStop snap.now why) }
+fn told_pointers(snap: &Snap, number: u32) -> Result<Option<Pointers>, Suspend>
+    ensures { IfErr result (λ why. MaySuspend snap.now why) }
 {
     let Some(inode) = held(snap, number)? else {
         return Ok(None);
@@ -89,32 +92,36 @@ impl Listing {
     {
         let padded = (name.len() as u64 + 3) / 4 * 4;
         let bytes = self.besides as u64 + padded;
-        let name_bytes = ENTRY_BYTES as u64 + padded;
-        if self.is_full || bytes > self.room || name_bytes > self.names_room {
+        let name_bytes = LISTED_ITEM_BYTES as u64 + padded;
+        if self.is_full || bytes > self.room || name_bytes > self.names_budget {
             self.is_full = true;
             return Ok(());
         }
         self.room -= bytes;
-        self.names_room -= name_bytes;
+        self.names_budget -= name_bytes;
         if self.tells {
             self.numbers.push(number)?;
         }
         Ok(())
     }
 
-    // Lists names until one has no room, or none is left.
-    fn list(&mut self, alloc: Global, snap: &Snap) -> Result<(), Stop>
-        ensures { IfErr result (λ why. MayStop snap.now why) }
+    // Lists names until one has no room, or none is left. What was found free isn't looked at again.
+    fn list(&mut self, alloc: Global, snap: &Snap) -> Result<(), Suspend>
+        ensures { IfErr result (λ why. MaySuspend snap.now why) }
     {
         'names: while !self.is_full {
-            match next_name(alloc, snap, &self.directory, self.from)? {
-                Some(found) => {
+            match next_name(alloc, snap, &self.directory, self.from) {
+                Ok(Some(found)) => {
                     self.from = found.slot as u64 + 1;
                     self.add(found.number, found.name.as_slice())?;
                 }
-                None => {
+                Ok(None) => {
                     self.is_full = true;
                     return Ok(());
+                }
+                Err(why) => {
+                    self.from = behind_free_slots(snap, &self.directory, self.from);
+                    return Err(why);
                 }
             }
         }
@@ -122,10 +129,10 @@ impl Listing {
     }
 
     // Tells the next file of what was listed.
-    fn tell_next(&mut self, alloc: Global, snap: &Snap, number: u32) -> Result<(), Stop>
-        ensures told { self.new.told ≡ self.old.told }
+    fn tell_next(&mut self, alloc: Global, snap: &Snap, number: u32) -> Result<(), Suspend>
+        ensures emitted { self.new.emitted ≡ self.old.emitted }
         ensures numbers { self.new.numbers ≡ self.old.numbers }
-        ensures err { IfErr result (λ why. MayStop snap.now why) }
+        ensures err { IfErr result (λ why. MaySuspend snap.now why) }
     {
         if self.pointers.is_none() {
             self.pointers = told_pointers(snap, number)?;
@@ -138,21 +145,21 @@ impl Listing {
     }
 
     // Tells the files of what was listed.
-    fn tell(&mut self, alloc: Global, snap: &Snap) -> Result<(), Stop>
-        ensures { IfErr result (λ why. MayStop snap.now why) }
+    fn tell(&mut self, alloc: Global, snap: &Snap) -> Result<(), Suspend>
+        ensures { IfErr result (λ why. MaySuspend snap.now why) }
     {
-        'numbers: while self.told < self.numbers.len() {
-            let number = self.numbers[self.told];
+        'numbers: while self.emitted < self.numbers.len() {
+            let number = self.numbers[self.emitted];
             self.tell_next(alloc, snap, number)?;
-            self.told += 1;
+            self.emitted += 1;
             self.pointers = None;
         }
         Ok(())
     }
 
     // Asks on. The pointer block of the directory itself is looked at when all else is known.
-    fn go_on(&mut self, alloc: Global, snap: &Snap) -> Result<(), Stop>
-        ensures { IfErr result (λ why. MayStop snap.now why) }
+    fn go_on(&mut self, alloc: Global, snap: &Snap) -> Result<(), Suspend>
+        ensures { IfErr result (λ why. MaySuspend snap.now why) }
     {
         self.list(alloc, snap)?;
         self.tell(alloc, snap)?;
@@ -161,8 +168,8 @@ impl Listing {
 }
 
 impl Blocks {
-    fn go_on(&mut self, snap: &Snap) -> Result<(), Stop>
-        ensures { IfErr result (λ why. MayStop snap.now why) }
+    fn go_on(&mut self, snap: &Snap) -> Result<(), Suspend>
+        ensures { IfErr result (λ why. MaySuspend snap.now why) }
     {
         'indexes: while self.at < self.end {
             ask_block(snap, &self.inode, self.at)?;
@@ -173,8 +180,8 @@ impl Blocks {
 }
 
 impl Ahead {
-    fn go_on(&mut self, alloc: Global, snap: &Snap) -> Result<(), Stop>
-        ensures { IfErr result (λ why. MayStop snap.now why) }
+    fn go_on(&mut self, alloc: Global, snap: &Snap) -> Result<(), Suspend>
+        ensures { IfErr result (λ why. MaySuspend snap.now why) }
     {
         match self {
             Ahead::Nothing => Ok(()),
@@ -185,27 +192,28 @@ impl Ahead {
             Ahead::Listing(listing) => listing.go_on(alloc, snap),
             Ahead::Pieces(pieces) => pieces.go_on(snap),
             Ahead::Pointers(pointers) => pointers.go_on(snap),
+            Ahead::Above(above) => above.go_on(snap),
         }
     }
 
     /// The next object or block that is asked for: the same until it was read or claimed.
-    pub(crate) fn next(&mut self, alloc: Global, snap: &Snap) -> Option<Stop>
-        ensures { IfSome result (λ why. MayStop snap.now why) }
+    pub(crate) fn next(&mut self, alloc: Global, snap: &Snap) -> Option<Suspend>
+        ensures { IfSome result (λ why. MaySuspend snap.now why) }
     {
         match self.go_on(alloc, snap) {
             Ok(()) => None,
-            Err(stop) => Some(stop),
+            Err(suspend) => Some(suspend),
         }
     }
 }
 
 // A position, in a box.
-fn boxed<T: Drop>(alloc: Global, position: T) -> Result<Box<T>, Stop>
+fn boxed<T: Drop>(alloc: Global, position: T) -> Result<Box<T>, Suspend>
     ensures { IfErr result (λ why. why ≡ NoMemory) }
 {
     match Box::new(alloc, position) {
         Ok(boxed) => Ok(boxed),
-        Err(_) => Err(Stop::NoMemory),
+        Err(_) => Err(Suspend::NoMemory),
     }
 }
 
@@ -216,7 +224,7 @@ fn blocks_of(
     file: &Handle,
     offset: u64,
     count: u32,
-) -> Result<Ahead, Stop> {
+) -> Result<Ahead, Suspend> {
     let Some((number, _)) = file.parts() else {
         return Ok(Ahead::Nothing);
     };
@@ -237,8 +245,8 @@ fn blocks_of(
 }
 
 // What of so many bytes is left for entries.
-fn entry_room(count: u32) -> u32
-    ensures { result ≡ entry_room count }
+fn listing_budget(count: u32) -> u32
+    ensures { result ≡ listing_budget count }
 {
     count.min(LISTING_BYTES).saturating_sub(LISTING_FRAME)
 }
@@ -250,10 +258,10 @@ fn listing_of(
     directory: &Handle,
     cookie: u64,
     besides: u32,
-    names_room: u32,
+    names_budget: u32,
     room: u32,
     tells: bool,
-) -> Result<Ahead, Stop> {
+) -> Result<Ahead, Suspend> {
     let Some((number, _)) = directory.parts() else {
         return Ok(Ahead::Nothing);
     };
@@ -268,11 +276,11 @@ fn listing_of(
         besides,
         tells,
         from: cookie.saturating_sub(PARENT_COOKIE),
-        names_room: names_room as u64,
+        names_budget: names_budget as u64,
         room: room as u64,
         is_full: false,
         numbers: Vec::new(alloc),
-        told: 0,
+        emitted: 0,
         pointers: None,
     };
     if cookie < ITSELF_COOKIE {
@@ -291,8 +299,8 @@ pub(crate) fn entering(
     name: &DirectoryName,
     makes: bool,
     has_block: bool,
-) -> Result<Ahead, Stop>
-    ensures { IfErr result (λ why. MayStop snap.now why) }
+) -> Result<Ahead, Suspend>
+    ensures { IfErr result (λ why. MaySuspend snap.now why) }
 {
     match Entering::begin(alloc, snap, &name.directory, makes, has_block)? {
         Some(entering) => Ok(Ahead::Entering(boxed(alloc, entering)?)),
@@ -301,7 +309,7 @@ pub(crate) fn entering(
 }
 
 /// What the blocks ask for that a file frees, if it does.
-pub(crate) fn freed(alloc: Global, freeing: Option<Freeing>) -> Result<Ahead, Stop>
+pub(crate) fn freed(alloc: Global, freeing: Option<Freeing>) -> Result<Ahead, Suspend>
     ensures { IfErr result (λ why. why ≡ NoMemory) }
 {
     match freeing {
@@ -328,7 +336,7 @@ fn has_a_row(call: &Call) -> bool {
 // What a call asks for in a row, from its first object on. It stands apart, so that a plan that goes on elsewhere has
 // no room for it.
 #[inline(never)]
-fn in_a_row(alloc: Global, call: &Call, snap: &Snap, names: &Names) -> Result<Ahead, Stop> {
+fn in_a_row(alloc: Global, call: &Call, snap: &Snap, names: &Names) -> Result<Ahead, Suspend> {
     match call {
         Call::Read {
             file,
@@ -341,13 +349,13 @@ fn in_a_row(alloc: Global, call: &Call, snap: &Snap, names: &Names) -> Result<Ah
             count,
             ..
         } => {
-            let room = entry_room(*count);
+            let room = listing_budget(*count);
             listing_of(
                 alloc,
                 snap,
                 directory,
                 *cookie,
-                ENTRY_BYTES,
+                LISTED_ITEM_BYTES,
                 room,
                 room,
                 false,
@@ -360,15 +368,15 @@ fn in_a_row(alloc: Global, call: &Call, snap: &Snap, names: &Names) -> Result<Ah
             greatest_count,
             ..
         } => {
-            let room = entry_room(*greatest_count);
-            let names_room = *directory_count;
+            let room = listing_budget(*greatest_count);
+            let names_budget = *directory_count;
             listing_of(
                 alloc,
                 snap,
                 directory,
                 *cookie,
-                ENTRY_PLUS_BYTES,
-                names_room,
+                LISTED_ITEM_PLUS_BYTES,
+                names_budget,
                 room,
                 true,
             )
@@ -406,12 +414,12 @@ fn in_a_row(alloc: Global, call: &Call, snap: &Snap, names: &Names) -> Result<Ah
 }
 
 // Whether a plan asks for what a position asks for next.
-fn is_asked(plan: &Plan, next: &Option<Stop>) -> bool {
+fn is_asked(plan: &Plan, next: &Option<Suspend>) -> bool {
     match (plan, next) {
-        (Plan::Need(asked, mode), Some(Stop::Need(addr, wished))) => {
-            *asked == *addr && *mode == *wished
+        (Plan::Need(asked, mode), Some(Suspend::Need(addr, request))) => {
+            *asked == *addr && *mode == *request
         }
-        (Plan::Claim(asked), Some(Stop::Claim(block))) => *asked == *block,
+        (Plan::Claim(asked), Some(Suspend::Claim(block))) => *asked == *block,
         _ => false,
     }
 }
@@ -492,6 +500,22 @@ fn pointers_behind(
     None
 }
 
+// The directories above the one that gets a name by a RENAME, for the next of which a plan asks.
+fn above_behind(
+    alloc: Global,
+    call: &Call,
+    snap: &Snap,
+    names: &Names,
+    plan: &Plan,
+) -> Option<Ahead> {
+    let Call::Rename { source, target } = call else {
+        return None;
+    };
+    let moved = known_number(snap, names, source)?;
+    let above = Above::begin(&target.directory, moved)?;
+    begun(alloc, snap, plan, Ahead::Above(above))
+}
+
 /// What a call asks for behind a plan: nothing, unless the plan asks for the next of what the call asks for in a row,
 /// so that the run has come there.
 pub(crate) fn behind(alloc: Global, call: &Call, snap: &Snap, names: &Names, plan: &Plan) -> Ahead {
@@ -499,6 +523,9 @@ pub(crate) fn behind(alloc: Global, call: &Call, snap: &Snap, names: &Names, pla
         return Ahead::Nothing;
     }
     if let Some(ahead) = pointers_behind(alloc, call, snap, names, plan) {
+        return ahead;
+    }
+    if let Some(ahead) = above_behind(alloc, call, snap, names, plan) {
         return ahead;
     }
     if !has_a_row(call) {

@@ -5,7 +5,7 @@ ghost use Rattle.layout.specs.declared.geometry.Geometry.{Geometry};
 ghost use Rattle.objects.specs.declared.addr.Addr.{Addr};
 ghost use Rattle.objects.specs.declared.mode.Mode.{Mode};
 ghost use Rattle.txn.specs.Object.{ObjectBytes};
-ghost use Rattle.txn.specs.Wishes.{IsWhole};
+ghost use Rattle.txn.specs.LockAnswers.{IsWhole};
 ghost use Rattle.inode.specs.Snap.{is_claimed, is_had, with_mode, with_read};
 ghost use Rattle.procs.specs.Asks.{Asks, Claims, WereAskedOnce, WereClaimedOnce};
 ghost use Rattle.procs.specs.MostAsked.{most_asked, most_claimed, times_asked};
@@ -22,15 +22,15 @@ pub fn what_is_read_was_asked_for()
 pub fn a_plan_asks_for_few()
     ensures objects { (g : Geometry) (objects : List ObjectBytes) → WereAskedOnce g objects
         → length objects ≤ most_asked g.blocks }
-    ensures times { (g : Geometry) (objects : List ObjectBytes) (alone : List Addr) → WereAskedOnce g objects
-        → times_asked objects alone ≤ 2 * most_asked g.blocks }
+    ensures times { (g : Geometry) (objects : List ObjectBytes) (exclusives : List Addr) → WereAskedOnce g objects
+        → times_asked objects exclusives ≤ 2 * most_asked g.blocks }
 {}
 
 /// Each time that a plan asks for what isn't had in a mode yet, and is told it, it has asked more often.
 pub fn what_is_asked_for_counts()
-    ensures { (addr : Addr) (mode : Mode) (bytes : List ℕ) (objects : List ObjectBytes) (alone : List Addr)
-        → is_had addr mode objects alone ≡ false
-        → times_asked objects alone < times_asked (with_read addr bytes objects) (with_mode addr mode alone) }
+    ensures { (addr : Addr) (mode : Mode) (bytes : List ℕ) (objects : List ObjectBytes) (exclusives : List Addr)
+        → is_had addr mode objects exclusives ≡ false
+        → times_asked objects exclusives < times_asked (with_read addr bytes objects) (with_mode addr mode exclusives) }
 {}
 
 /// Blocks stay claimed, each once, when one more is claimed that may be claimed and that is new. Such a block is

@@ -5,7 +5,7 @@ ghost use Rattle.txn.specs.Group.{blocks_of};
 ghost use Rattle.layout.specs.Geometry.{IsLawful};
 ghost use Rattle.procs.specs.Finished.{IsAnsweredPlan, IsFinished};
 
-use crate::draft::Draft;
+use crate::untested_plan::UntestedPlan;
 use nfs_types::Reply;
 use std::marker::Model;
 use txn::{Change, Object};
@@ -15,7 +15,7 @@ use txn::{Change, Object};
 /// for proofs alone.
 #[derive(Drop)]
 pub struct Done {
-    draft: Draft,
+    untested_plan: UntestedPlan,
 }
 
 impl Model for Done {
@@ -24,39 +24,39 @@ impl Model for Done {
 
     ghost Value = { Outcome };
 
-    ghost view = { λ done. done.draft };
+    ghost view = { λ done. done.untested_plan };
 
-    ghost invariant = { λ done. IsFinished done.draft };
+    ghost invariant = { λ done. IsFinished done.untested_plan };
 }
 
 impl Done {
     /// What a plan ended in.
-    pub(crate) fn new(draft: Draft) -> Done
-        requires { IsFinished draft }
-        ensures { result ≡ draft }
+    pub(crate) fn new(untested_plan: UntestedPlan) -> Done
+        requires { IsFinished untested_plan }
+        ensures { result ≡ untested_plan }
     {
-        Done { draft }
+        Done { untested_plan }
     }
 
     /// It is what the plan of its call ended in.
     pub fn finished(&self)
         ensures { IsFinished self.now }
     {
-        let _ = &self.draft;
+        let _ = &self.untested_plan;
     }
 
     /// The reply.
     pub fn reply(&self) -> &Reply
         ensures { result.now ≡ self.now.reply }
     {
-        self.draft.reply()
+        self.untested_plan.reply()
     }
 
     /// The reply, by itself.
     pub fn into_reply(self) -> Reply
         ensures { result ≡ self.reply }
     {
-        self.draft.into_reply()
+        self.untested_plan.into_reply()
     }
 }
 
@@ -77,19 +77,19 @@ impl Change for Done {
     ghost are_counts = { IsLawful };
 
     fn read(&self) -> &[Object] {
-        self.draft.read()
+        self.untested_plan.read()
     }
 
     fn written(&self) -> &[Object] {
-        self.draft.written()
+        self.untested_plan.written()
     }
 
     fn blocks(&self) -> u32 {
-        self.draft.blocks()
+        self.untested_plan.blocks()
     }
 
     fn inodes(&self) -> u32 {
-        self.draft.inodes()
+        self.untested_plan.inodes()
     }
 
     fn is_planned(&self) {

@@ -2,23 +2,23 @@
 //! 3.3.10 and 3.3.15): a number that no file has, free blocks, each as a claim, and the new file's inode. These are
 //! positions, of which nothing is claimed.
 ghost use Rattle.std.specs.Prelude.{◌≡◌, ◌^◌, ◌≤◌, IfErr};
-ghost use Rattle.inode.specs.Over.{MayStop};
+ghost use Rattle.inode.specs.Over.{MaySuspend};
 
 use crate::free::{FreeBlocks, FreeNumber, Room};
 use dir::free_slot;
-use inode::{Snap, Stop, held};
+use inode::{Snap, Suspend, held};
 use layout::{Inode, InodeKind};
 use nfs_types::Handle;
 use procs_blocks::BlockFiles;
-use procs_files::{Files, Head};
-use procs_names::entry_adds;
+use procs_files::{Files, InodeAttributes};
+use procs_names::dirent_adds;
 use std::alloc::Global;
 
 /// A directory; the number of a new file, where one is made, and how many blocks it has; how many free blocks are
 /// wanted for these and for the name, once this is known; and how many of them were taken.
 #[derive(Drop)]
 pub(crate) struct Entering {
-    directory: Head,
+    directory: InodeAttributes,
     inode: Inode,
     number: Option<FreeNumber>,
     blocks: u32,
@@ -37,8 +37,8 @@ impl Entering {
         directory: &Handle,
         makes: bool,
         has_block: bool,
-    ) -> Result<Option<Entering>, Stop>
-        ensures { IfErr result (λ why. MayStop snap.now why) }
+    ) -> Result<Option<Entering>, Suspend>
+        ensures { IfErr result (λ why. MaySuspend snap.now why) }
     {
         let Some((number, _)) = directory.parts() else {
             return Ok(None);
@@ -68,13 +68,13 @@ impl Entering {
         }))
     }
     // Whether so many free blocks are wanted and there. Asks for what tells how many.
-    fn has_room(&mut self, snap: &Snap) -> Result<bool, Stop>
-        ensures { IfErr result (λ why. MayStop snap.now why) }
+    fn has_free_blocks(&mut self, snap: &Snap) -> Result<bool, Suspend>
+        ensures { IfErr result (λ why. MaySuspend snap.now why) }
     {
         let wanted = match self.wanted {
             Some(wanted) => wanted,
             None => match free_slot(snap, &self.inode)? {
-                Some(slot) => entry_adds(&self.directory, slot) + self.blocks,
+                Some(slot) => dirent_adds(&self.directory, slot) + self.blocks,
                 None => return Ok(false),
             },
         };
@@ -83,8 +83,8 @@ impl Entering {
     }
 
     // Asks for the free blocks that are wanted.
-    fn take(&mut self, snap: &Snap) -> Result<(), Stop>
-        ensures { IfErr result (λ why. MayStop snap.now why) }
+    fn take(&mut self, snap: &Snap) -> Result<(), Suspend>
+        ensures { IfErr result (λ why. MaySuspend snap.now why) }
     {
         'blocks: for taken in self.taken..self.wanted.unwrap_or(0) {
             self.free.take(snap)?;
@@ -94,8 +94,8 @@ impl Entering {
     }
 
     /// Asks for the next object or block that wasn't read or claimed.
-    pub(crate) fn go_on(&mut self, snap: &Snap) -> Result<(), Stop>
-        ensures { IfErr result (λ why. MayStop snap.now why) }
+    pub(crate) fn go_on(&mut self, snap: &Snap) -> Result<(), Suspend>
+        ensures { IfErr result (λ why. MaySuspend snap.now why) }
     {
         let number = match &mut self.number {
             Some(number) => match number.find(snap)? {
@@ -104,7 +104,7 @@ impl Entering {
             },
             None => None,
         };
-        if !self.has_room(snap)? {
+        if !self.has_free_blocks(snap)? {
             return Ok(());
         }
         self.take(snap)?;

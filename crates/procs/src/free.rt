@@ -2,12 +2,12 @@
 //! number that no file has. These are positions, of which nothing is claimed.
 ghost use Rattle.std.specs.Prelude.{◌≡◌, ◌<◌, ◌≤◌, length, true, IfErr, IfSome};
 ghost use Rattle.layout.specs.declared.grid.TheConstants.{PIECE_BITS, PIECE_BYTES};
-ghost use Rattle.inode.specs.Over.{MayStop};
+ghost use Rattle.inode.specs.Over.{MaySuspend};
 
 use crate::pieces::{piece_bytes, pieces_of_blocks};
 use base::FIRST_HOME_BLOCK;
 use disk::BlockNo;
-use inode::{Snap, Stop};
+use inode::{Snap, Suspend};
 use layout::{PIECE_BITS, PIECES_PER_BLOCK};
 use layout_records::clear_in;
 
@@ -64,14 +64,14 @@ fn clear_from(bytes: &[u8], from: u32) -> Option<u32>
 }
 
 // Asks to claim a block that is free.
-fn ask_claim(snap: &Snap, number: u32) -> Result<(), Stop>
-    ensures { IfErr result (λ why. MayStop snap.now why) }
+fn ask_claim(snap: &Snap, number: u32) -> Result<(), Suspend>
+    ensures { IfErr result (λ why. MaySuspend snap.now why) }
 {
     if !snap.geometry.is_data(number) {
-        return Err(Stop::Io);
+        return Err(Suspend::Io);
     }
     if !snap.has_claim(BlockNo(number)) {
-        return Err(Stop::Claim(BlockNo(number)));
+        return Err(Suspend::Claim(BlockNo(number)));
     }
     Ok(())
 }
@@ -86,8 +86,8 @@ impl Room {
     }
 
     /// Whether so many blocks are free. Asks for the next piece until it is known.
-    pub(crate) fn is_for(&mut self, snap: &Snap, wanted: u32) -> Result<bool, Stop>
-        ensures { IfErr result (λ why. MayStop snap.now why) }
+    pub(crate) fn is_for(&mut self, snap: &Snap, wanted: u32) -> Result<bool, Suspend>
+        ensures { IfErr result (λ why. MaySuspend snap.now why) }
     {
         let pieces = pieces_of_blocks(snap);
         'pieces: for passed in self.counted..pieces {
@@ -109,8 +109,8 @@ impl FreeBlocks {
     }
 
     /// Asks for the next free block: for the pieces up to its bit, and then for itself, until it was claimed.
-    pub(crate) fn take(&mut self, snap: &Snap) -> Result<(), Stop>
-        ensures { IfErr result (λ why. MayStop snap.now why) }
+    pub(crate) fn take(&mut self, snap: &Snap) -> Result<(), Suspend>
+        ensures { IfErr result (λ why. MaySuspend snap.now why) }
     {
         let pieces = pieces_of_blocks(snap);
         'pieces: for passed in self.passed..pieces {
@@ -136,8 +136,8 @@ impl FreeNumber {
     }
 
     /// The first number that no file has, if there is one. Asks for the pieces up to its bit.
-    pub(crate) fn find(&mut self, snap: &Snap) -> Result<Option<u32>, Stop>
-        ensures { IfErr result (λ why. MayStop snap.now why) }
+    pub(crate) fn find(&mut self, snap: &Snap) -> Result<Option<u32>, Suspend>
+        ensures { IfErr result (λ why. MaySuspend snap.now why) }
     {
         let first = pieces_of_blocks(snap);
         let pieces = PIECES_PER_BLOCK * (snap.geometry.inode_table().0 - FIRST_HOME_BLOCK) - first;

@@ -3,18 +3,20 @@
 //! positions, of which nothing is claimed.
 ghost use Rattle.std.specs.Prelude.{◌≡◌, ◌≤◌, length, IfErr};
 ghost use Rattle.base.specs.declared.TheConstants.{BLOCK_BYTES, FILE_INDEXES};
-ghost use Rattle.inode.specs.Over.{MayStop};
+ghost use Rattle.inode.specs.Over.{MaySuspend};
 
+use crate::free_slots::behind_free_slots;
 use crate::pieces::{ask_block_bit, ask_number_bit};
 use crate::pointers::Pointers;
 use base::{BLOCK_BYTES, DIRECT_INDEXES, FIRST_DOUBLE_INDEX, INDIRECT_INDEXES, LARGEST_FILE};
-use dir::is_empty;
-use inode::{Snap, Stop, block_number, data_block, held};
+use dir::next_name;
+use inode::{Snap, Suspend, block_number, data_block, held};
 use layout::{Inode, InodeKind, Numbers};
 use std::alloc::Global;
 
 /// A file, and how many of its indexes stay; whether a part of the last of these is written over with zeros; the number
-/// that no file has then, where none stays; whether it is yet to be looked through for names; its pointer blocks; and
+/// that no file has then, where none stays; whether it is yet to be looked through for names, and from which slot on; its
+/// pointer blocks; and
 /// how far the bits of what is freed were asked for: those of inner blocks of a file that is gone, and those of what
 /// the indirect block names, inner blocks, and so many numbers of the next; and whether an inner block stays.
 #[derive(Drop)]
@@ -24,6 +26,7 @@ pub(crate) struct Freeing {
     is_zeroed: bool,
     number: Option<u32>,
     is_looked_through: bool,
+    from: u64,
     pointers: Pointers,
     marked: usize,
     is_past_far: bool,
@@ -34,8 +37,8 @@ pub(crate) struct Freeing {
 }
 
 // Asks for the bit of a block that is freed, if the number is that of one.
-fn ask_freed(snap: &Snap, number: u32) -> Result<(), Stop>
-    ensures { IfErr result (λ why. MayStop snap.now why) }
+fn ask_freed(snap: &Snap, number: u32) -> Result<(), Suspend>
+    ensures { IfErr result (λ why. MaySuspend snap.now why) }
 {
     if number == 0 {
         return Ok(());
@@ -57,7 +60,7 @@ fn names_any(bytes: &[u8], count: usize) -> bool
 
 impl Freeing {
     /// What the file of a number asks for that is cut to this size.
-    pub(crate) fn cut(snap: &Snap, number: u32, size: u64) -> Result<Option<Freeing>, Stop> {
+    pub(crate) fn cut(snap: &Snap, number: u32, size: u64) -> Result<Option<Freeing>, Suspend> {
         let Some(inode) = held(snap, number)? else {
             return Ok(None);
         };
@@ -70,6 +73,7 @@ impl Freeing {
             is_zeroed: size % BLOCK_BYTES as u64 != 0,
             number: None,
             is_looked_through: false,
+            from: 0,
             pointers: Pointers::begin(inode),
             marked: 0,
             is_past_far: false,
@@ -81,8 +85,8 @@ impl Freeing {
 
     /// What the file of a number asks for that loses a name, if that is its last: as a directory it is looked through
     /// for names before.
-    pub(crate) fn gone(snap: &Snap, number: u32) -> Result<Option<Freeing>, Stop>
-        ensures { IfErr result (λ why. MayStop snap.now why) }
+    pub(crate) fn gone(snap: &Snap, number: u32) -> Result<Option<Freeing>, Suspend>
+        ensures { IfErr result (λ why. MaySuspend snap.now why) }
     {
         let Some(inode) = held(snap, number)? else {
             return Ok(None);
@@ -97,6 +101,7 @@ impl Freeing {
             is_zeroed: false,
             number: Some(number),
             is_looked_through: is_directory,
+            from: 0,
             pointers: Pointers::begin(inode),
             marked: 0,
             is_past_far: false,
@@ -112,21 +117,28 @@ impl Freeing {
     }
 
     // Asks for what is looked through for names. Whether there is none.
-    fn has_no_name(&mut self, alloc: Global, snap: &Snap) -> Result<bool, Stop>
-        ensures { IfErr result (λ why. MayStop snap.now why) }
+    fn has_no_name(&mut self, alloc: Global, snap: &Snap) -> Result<bool, Suspend>
+        ensures { IfErr result (λ why. MaySuspend snap.now why) }
     {
-        if self.is_looked_through {
-            if !is_empty(alloc, snap, &self.inode)? {
-                return Ok(false);
-            }
-            self.is_looked_through = false;
+        if !self.is_looked_through {
+            return Ok(true);
         }
-        Ok(true)
+        match next_name(alloc, snap, &self.inode, self.from) {
+            Ok(Some(_)) => Ok(false),
+            Ok(None) => {
+                self.is_looked_through = false;
+                Ok(true)
+            }
+            Err(why) => {
+                self.from = behind_free_slots(snap, &self.inode, self.from);
+                Err(why)
+            }
+        }
     }
 
     // Asks for the last block that stays, where a part of it is written over.
-    fn ask_last(&self, snap: &Snap) -> Result<(), Stop>
-        ensures { IfErr result (λ why. MayStop snap.now why) }
+    fn ask_last(&self, snap: &Snap) -> Result<(), Suspend>
+        ensures { IfErr result (λ why. MaySuspend snap.now why) }
     {
         if !self.is_zeroed || self.kept == 0 {
             return Ok(());
@@ -139,8 +151,8 @@ impl Freeing {
     }
 
     // Asks for the bits of the pointer blocks of a file that is gone.
-    fn ask_pointer_bits(&mut self, snap: &Snap) -> Result<(), Stop>
-        ensures { IfErr result (λ why. MayStop snap.now why) }
+    fn ask_pointer_bits(&mut self, snap: &Snap) -> Result<(), Suspend>
+        ensures { IfErr result (λ why. MaySuspend snap.now why) }
     {
         ask_freed(snap, self.inode.indirect)?;
         ask_freed(snap, self.inode.double)?;
@@ -156,8 +168,8 @@ impl Freeing {
     }
 
     // Asks for the bits of the blocks that the inode names itself and that are freed.
-    fn ask_near(&self, snap: &Snap) -> Result<(), Stop>
-        ensures { IfErr result (λ why. MayStop snap.now why) }
+    fn ask_near(&self, snap: &Snap) -> Result<(), Suspend>
+        ensures { IfErr result (λ why. MaySuspend snap.now why) }
     {
         'indexes: for index in self.kept..DIRECT_INDEXES {
             ask_freed(snap, self.inode.direct[index])?;
@@ -168,8 +180,8 @@ impl Freeing {
     // Asks for the bits of the blocks that a pointer block names, if there is one, from the first index that is freed
     // on; its own numbers begin with this index. Then for its own bit, where the file is cut and none of its numbers
     // stays. Whether one does.
-    fn ask_row(&mut self, snap: &Snap, pointer: u32, first: usize) -> Result<bool, Stop>
-        ensures { IfErr result (λ why. MayStop snap.now why) }
+    fn ask_row(&mut self, snap: &Snap, pointer: u32, first: usize) -> Result<bool, Suspend>
+        ensures { IfErr result (λ why. MaySuspend snap.now why) }
     {
         if !snap.geometry.is_data(pointer) {
             return Ok(false);
@@ -190,8 +202,8 @@ impl Freeing {
     }
 
     // Asks for the bits that the indirect block has freed.
-    fn ask_far(&mut self, snap: &Snap) -> Result<(), Stop>
-        ensures { IfErr result (λ why. MayStop snap.now why) }
+    fn ask_far(&mut self, snap: &Snap) -> Result<(), Suspend>
+        ensures { IfErr result (λ why. MaySuspend snap.now why) }
     {
         if !self.is_past_far {
             self.ask_row(snap, self.inode.indirect, DIRECT_INDEXES)?;
@@ -202,9 +214,9 @@ impl Freeing {
     }
 
     // Asks for the bits that the inner blocks of these numbers have freed, one block behind the other.
-    fn ask_inners(&mut self, snap: &Snap, numbers: &[u8]) -> Result<(), Stop>
+    fn ask_inners(&mut self, snap: &Snap, numbers: &[u8]) -> Result<(), Suspend>
         requires { length numbers.now ≡ BLOCK_BYTES }
-        ensures { IfErr result (λ why. MayStop snap.now why) }
+        ensures { IfErr result (λ why. MaySuspend snap.now why) }
     {
         'inners: for inner in self.inners..INDIRECT_INDEXES {
             let first = FIRST_DOUBLE_INDEX + INDIRECT_INDEXES * inner;
@@ -219,8 +231,8 @@ impl Freeing {
 
     // Asks for the bits that the double indirect block has freed, and then for its own, where the file is cut and no
     // inner block stays.
-    fn ask_double(&mut self, snap: &Snap) -> Result<(), Stop>
-        ensures { IfErr result (λ why. MayStop snap.now why) }
+    fn ask_double(&mut self, snap: &Snap) -> Result<(), Suspend>
+        ensures { IfErr result (λ why. MaySuspend snap.now why) }
     {
         let double = self.inode.double;
         if !snap.geometry.is_data(double) {
@@ -235,8 +247,8 @@ impl Freeing {
     }
 
     /// Asks for the next object that wasn't read.
-    pub(crate) fn go_on(&mut self, alloc: Global, snap: &Snap) -> Result<(), Stop>
-        ensures { IfErr result (λ why. MayStop snap.now why) }
+    pub(crate) fn go_on(&mut self, alloc: Global, snap: &Snap) -> Result<(), Suspend>
+        ensures { IfErr result (λ why. MaySuspend snap.now why) }
     {
         if !self.has_no_name(alloc, snap)? {
             return Ok(());

@@ -3,10 +3,10 @@ ghost use Rattle.std.specs.Prelude.{◌≡◌, ◌+◌, ◌-◌, ◌*◌, ◌/�
 ghost use Rattle.base.specs.declared.TheConstants.{FIRST_HOME_BLOCK};
 ghost use Rattle.layout.specs.Geometry.{inode_bitmap_at, table_at};
 ghost use Rattle.layout.specs.declared.grid.TheConstants.{PIECE_BYTES, PIECES_PER_BLOCK};
-ghost use Rattle.inode.specs.Over.{MayStop};
+ghost use Rattle.inode.specs.Over.{MaySuspend};
 
 use base::FIRST_HOME_BLOCK;
-use inode::{Snap, Stop, bytes_at};
+use inode::{Snap, Suspend, bytes_at};
 use layout::{PIECE_BITS, PIECES_PER_BLOCK};
 use layout_records::piece_addr;
 
@@ -17,15 +17,15 @@ pub(crate) struct Pieces {
 }
 
 /// The bytes of a piece.
-pub(crate) fn piece_bytes(snap: &Snap, piece: u32) -> Result<&[u8], Stop>
+pub(crate) fn piece_bytes(snap: &Snap, piece: u32) -> Result<&[u8], Suspend>
     requires { FIRST_HOME_BLOCK + piece / PIECES_PER_BLOCK
         < table_at snap.now.geometry.blocks snap.now.geometry.inodes }
     ensures len { IfOk result (λ bytes. length bytes.now ≡ PIECE_BYTES) }
-    ensures err { IfErr result (λ why. MayStop snap.now why) }
+    ensures err { IfErr result (λ why. MaySuspend snap.now why) }
 {
     match bytes_at(snap, piece_addr(FIRST_HOME_BLOCK, piece)) {
         Ok(bytes) => Ok(bytes),
-        Err(stop) => Err(stop),
+        Err(suspend) => Err(suspend),
     }
 }
 
@@ -45,8 +45,8 @@ fn pieces_of_both(snap: &Snap) -> u32
 }
 
 // Asks for a piece, if there is one.
-fn ask_piece(snap: &Snap, piece: u32) -> Result<(), Stop>
-    ensures { IfErr result (λ why. MayStop snap.now why) }
+fn ask_piece(snap: &Snap, piece: u32) -> Result<(), Suspend>
+    ensures { IfErr result (λ why. MaySuspend snap.now why) }
 {
     if piece < pieces_of_both(snap) {
         piece_bytes(snap, piece)?;
@@ -55,15 +55,15 @@ fn ask_piece(snap: &Snap, piece: u32) -> Result<(), Stop>
 }
 
 /// Asks for the piece that has the bit of a block.
-pub(crate) fn ask_block_bit(snap: &Snap, block: u32) -> Result<(), Stop>
-    ensures { IfErr result (λ why. MayStop snap.now why) }
+pub(crate) fn ask_block_bit(snap: &Snap, block: u32) -> Result<(), Suspend>
+    ensures { IfErr result (λ why. MaySuspend snap.now why) }
 {
     ask_piece(snap, block / PIECE_BITS)
 }
 
 /// Asks for the piece that has the bit of a file's number.
-pub(crate) fn ask_number_bit(snap: &Snap, number: u32) -> Result<(), Stop>
-    ensures { IfErr result (λ why. MayStop snap.now why) }
+pub(crate) fn ask_number_bit(snap: &Snap, number: u32) -> Result<(), Suspend>
+    ensures { IfErr result (λ why. MaySuspend snap.now why) }
 {
     ask_piece(
         snap,
@@ -78,8 +78,8 @@ impl Pieces {
     }
 
     /// Asks for the next one that wasn't read.
-    pub(crate) fn go_on(&mut self, snap: &Snap) -> Result<(), Stop>
-        ensures { IfErr result (λ why. MayStop snap.now why) }
+    pub(crate) fn go_on(&mut self, snap: &Snap) -> Result<(), Suspend>
+        ensures { IfErr result (λ why. MaySuspend snap.now why) }
     {
         let end = pieces_of_both(snap);
         'pieces: while self.at < end {

@@ -4,13 +4,13 @@ ghost use Rattle.inode.specs.Snap.{AreSeen};
 ghost use Rattle.procs.specs.Planning.{IsKnownBy};
 
 use crate::ahead::{Ahead, behind};
-use crate::anew::{is_same, names_of};
 use crate::next::Plan;
+use crate::restarted::{is_same, names_of};
 use crate::searched::go_on_behind;
 use crate::work::run;
 use dir::Names;
 use disk::BlockNo;
-use inode::{Snap, Stop};
+use inode::{Snap, Suspend};
 use layout::{Geometry, PIECE_BITS};
 use nfs_types::{Call, Ctx};
 use objects::{Addr, Mode, SharedBytes};
@@ -25,7 +25,7 @@ pub struct Planner {
     searches: Option<bool>,
     ahead: Ahead,
     ghost known: { IsKnownBy snap names },
-    ghost alone: { AreSeen snap.alone.items snap.objects.items },
+    ghost exclusives: { AreSeen snap.exclusives.items snap.objects.items },
 }
 
 impl Planner {
@@ -41,9 +41,9 @@ impl Planner {
     ghost use Rattle.layout.specs.Decode.{inode_at, span_of};
     ghost use Rattle.inode.specs.declared.snap.Snap.{Snap};
     ghost use Rattle.inode.specs.Read.{Saw};
-    ghost use Rattle.inode.specs.Snap.{HasRoom, with_mode, with_read};
+    ghost use Rattle.inode.specs.Snap.{HasReserved, with_mode, with_read};
     ghost use Rattle.dir.specs.Search.Known.{IsKnown, IsOfCall};
-    ghost use Rattle.dir.specs.Search.Places.{first_place, second_place};
+    ghost use Rattle.dir.specs.Search.Places.{first_dentry, second_dentry};
     ghost use Rattle.procs.specs.Planned.{IsPlanFor, IsPlanOf, IsStepPlan};
     ghost use Rattle.procs.specs.Planning.{AreOf};
     ghost use Rattle.procs.specs.Refused.{IsIoWhereRefused};
@@ -56,7 +56,7 @@ impl Planner {
         ensures geometry { result.snap.geometry ≡ geometry }
         ensures asks { result.snap.asks ≡ asks }
         ensures objects { result.snap.objects.items ≡ [] }
-        ensures alone { result.snap.alone.items ≡ [] }
+        ensures exclusives { result.snap.exclusives.items ≡ [] }
         ensures claims { result.snap.claims.items ≡ [] }
         ensures from { result.snap.from ≡ from }
         ensures of { (call : Call) → AreOf call result.names }
@@ -70,24 +70,24 @@ impl Planner {
     }
 
     /// Makes room for one more object and one more claim.
-    pub fn make_room(&mut self) -> Result<(), AllocError>
-        ensures room { OnOk result (HasRoom self.new.snap) }
+    pub fn reserve_next(&mut self) -> Result<(), AllocError>
+        ensures has_space { OnOk result (HasReserved self.new.snap) }
         ensures geometry { self.new.snap.geometry ≡ self.old.snap.geometry }
         ensures objects { self.new.snap.objects.items ≡ self.old.snap.objects.items }
-        ensures alone { self.new.snap.alone.items ≡ self.old.snap.alone.items }
+        ensures exclusives { self.new.snap.exclusives.items ≡ self.old.snap.exclusives.items }
         ensures claims { self.new.snap.claims.items ≡ self.old.snap.claims.items }
         ensures names { self.new.names ≡ self.old.names }
     {
-        self.snap.make_room()
+        self.snap.reserve_next()
     }
 
     /// Adds an object that was read in a mode, for which there is room. One that was read before is had in this mode,
     /// too.
     pub fn add(&mut self, addr: Addr, mode: Mode, bytes: SharedBytes)
         requires len { length bytes ≡ addr.len }
-        requires room { HasRoom self.old.snap }
+        requires has_space { HasReserved self.old.snap }
         ensures objects { self.new.snap.objects.items ≡ with_read addr bytes self.old.snap.objects.items }
-        ensures alone { self.new.snap.alone.items ≡ with_mode addr mode self.old.snap.alone.items }
+        ensures exclusives { self.new.snap.exclusives.items ≡ with_mode addr mode self.old.snap.exclusives.items }
         ensures geometry { self.new.snap.geometry ≡ self.old.snap.geometry }
         ensures claims { self.new.snap.claims.items ≡ self.old.snap.claims.items }
         ensures names { self.new.names ≡ self.old.names }
@@ -97,11 +97,11 @@ impl Planner {
 
     /// Notes that a block was claimed, for which there is room.
     pub fn claimed(&mut self, block: BlockNo)
-        requires { HasRoom self.old.snap }
+        requires { HasReserved self.old.snap }
         ensures claims { self.new.snap.claims.items ≡ self.old.snap.claims.items ++ block ∷ [] }
         ensures geometry { self.new.snap.geometry ≡ self.old.snap.geometry }
         ensures objects { self.new.snap.objects.items ≡ self.old.snap.objects.items }
-        ensures alone { self.new.snap.alone.items ≡ self.old.snap.alone.items }
+        ensures exclusives { self.new.snap.exclusives.items ≡ self.old.snap.exclusives.items }
         ensures names { self.new.names ≡ self.old.names }
     {
         self.snap.claimed(block);
@@ -109,7 +109,7 @@ impl Planner {
 
     /// The piece of the bitmap in which the last block was claimed, or from which free blocks are looked for, if none
     /// was: where the next call may look for them first.
-    pub fn room(&self) -> u32 {
+    pub fn alloc_cursor(&self) -> u32 {
         match self.snap.claims.last() {
             Some(block) => block.0 / PIECE_BITS,
             None => self.snap.from,
@@ -117,7 +117,7 @@ impl Planner {
     }
 
     /// What a call needs next, or what comes of it, by what was read so far. It asks for one object at a time, alone
-    /// for what is written, as `plan` does that begins anew: the procedure is run only where what follows isn't told by
+    /// for what is written, as `plan` does that restarts: the procedure is run only where what follows isn't told by
     /// where the last run stopped.
     pub fn next(&mut self, alloc: Global, ctx: &Ctx, call: &Call) -> Plan
         requires served { begins_transaction call.now ≡ true }
@@ -153,7 +153,7 @@ impl Planner {
     {
         let search = names.go_on(&self.snap);
         if self.searches == Some(names.is_second()) {
-            if let Err(Stop::Need(addr, mode)) = search {
+            if let Err(Suspend::Need(addr, mode)) = search {
                 return Plan::Need(addr, mode);
             }
         }
@@ -166,8 +166,8 @@ impl Planner {
             &mut self.searches,
             &mut self.ahead,
         ) {
-            Some(Stop::Need(addr, mode)) => return Plan::Need(addr, mode),
-            Some(Stop::Claim(block)) => return Plan::Claim(block),
+            Some(Suspend::Need(addr, mode)) => return Plan::Need(addr, mode),
+            Some(Suspend::Claim(block)) => return Plan::Claim(block),
             _ => {}
         }
         let next = run(alloc, ctx, call, &self.snap, names);
@@ -184,11 +184,11 @@ impl Planner {
     /// How many names were compared in all calls of `next` together: for a call of one name at most 32 for each block
     /// of its directory. Nothing else compares names for it, but for what a call that changes files looks for itself.
     pub fn compared(&self) -> u64
-        ensures { (call : Call) (place : DirectoryName) → AreOf call self.now.names
-            → first_place call ≡ Some place → second_place call ≡ None
-            → length place.directory.bytes ≡ HANDLE_BYTES
+        ensures { (call : Call) (dentry : DirectoryName) → AreOf call self.now.names
+            → first_dentry call ≡ Some dentry → second_dentry call ≡ None
+            → length dentry.directory.bytes ≡ HANDLE_BYTES
             → (blocks : Image) (inode : Inode) → Saw blocks self.now.snap
-            → inode_at self.now.snap.geometry blocks (number_in place.directory.bytes) ≡ Ok (Some inode)
+            → inode_at self.now.snap.geometry blocks (number_in dentry.directory.bytes) ≡ Ok (Some inode)
             → result ≤ SLOTS_PER_BLOCK * span_of inode }
     {
         match &self.names {

@@ -2,10 +2,10 @@
 //! claimed.
 ghost use Rattle.std.specs.Prelude.{◌≡◌, length, IfErr};
 ghost use Rattle.base.specs.declared.TheConstants.{BLOCK_BYTES};
-ghost use Rattle.inode.specs.Over.{MayStop};
+ghost use Rattle.inode.specs.Over.{MaySuspend};
 
 use base::INDIRECT_INDEXES;
-use inode::{Snap, Stop, data_block, held};
+use inode::{Snap, Suspend, data_block, held};
 use layout::{Inode, Numbers};
 
 /// The pointer blocks of a file. So many inner blocks were asked for, of those that its double indirect block names.
@@ -16,8 +16,8 @@ pub(crate) struct Pointers {
 }
 
 /// Asks for a data block, if the number is that of one.
-pub(crate) fn ask_data(snap: &Snap, number: u32) -> Result<(), Stop>
-    ensures { IfErr result (λ why. MayStop snap.now why) }
+pub(crate) fn ask_data(snap: &Snap, number: u32) -> Result<(), Suspend>
+    ensures { IfErr result (λ why. MaySuspend snap.now why) }
 {
     if snap.geometry.is_data(number) {
         data_block(snap, number)?;
@@ -32,8 +32,8 @@ impl Pointers {
     }
 
     /// Asks for the next that wasn't read.
-    pub(crate) fn go_on(&mut self, snap: &Snap) -> Result<(), Stop>
-        ensures { IfErr result (λ why. MayStop snap.now why) }
+    pub(crate) fn go_on(&mut self, snap: &Snap) -> Result<(), Suspend>
+        ensures { IfErr result (λ why. MaySuspend snap.now why) }
     {
         ask_data(snap, self.inode.indirect)?;
         if !snap.geometry.is_data(self.inode.double) {
@@ -44,9 +44,9 @@ impl Pointers {
     }
 
     // Asks for the next inner block that wasn't read, of those that the double indirect block names.
-    fn ask_inners(&mut self, snap: &Snap, numbers: &[u8]) -> Result<(), Stop>
+    fn ask_inners(&mut self, snap: &Snap, numbers: &[u8]) -> Result<(), Suspend>
         requires { length numbers.now ≡ BLOCK_BYTES }
-        ensures { IfErr result (λ why. MayStop snap.now why) }
+        ensures { IfErr result (λ why. MaySuspend snap.now why) }
     {
         'inners: for inner in self.inners..INDIRECT_INDEXES {
             ask_data(snap, Numbers::at(numbers, inner))?;

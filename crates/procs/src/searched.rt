@@ -2,13 +2,13 @@
 //! frees to which the name leads, and a CREATE for what a new name takes. These are positions, of which nothing is
 //! claimed.
 ghost use Rattle.std.specs.Prelude.{◌≡◌, IfErr, IfSome};
-ghost use Rattle.inode.specs.Over.{MayStop};
+ghost use Rattle.inode.specs.Over.{MaySuspend};
 
 use crate::ahead::{Ahead, entering, freed};
 use crate::shrinking::{named, unnamed};
 use base::LARGEST_FILE;
 use dir::Names;
-use inode::{Snap, Stop};
+use inode::{Snap, Suspend};
 use nfs_types::{Call, CreateHow, DirectoryName, NewAttributes, SetTime};
 use procs_files::is_own_name;
 use std::alloc::Global;
@@ -45,8 +45,8 @@ fn making(
     names: &Names,
     name: &DirectoryName,
     how: &CreateHow,
-) -> Result<Ahead, Stop>
-    ensures { IfErr result (λ why. MayStop snap.now why) }
+) -> Result<Ahead, Suspend>
+    ensures { IfErr result (λ why. MaySuspend snap.now why) }
 {
     if !is_plain(how) || is_own_name(name.name.as_slice()) {
         return Ok(Ahead::Nothing);
@@ -58,8 +58,8 @@ fn making(
 }
 
 // What a call asks for whose name was looked for, as far as no more than the name and what it leads to decides that.
-fn behind_search(alloc: Global, call: &Call, snap: &Snap, names: &Names) -> Result<Ahead, Stop>
-    ensures { IfErr result (λ why. MayStop snap.now why) }
+fn behind_search(alloc: Global, call: &Call, snap: &Snap, names: &Names) -> Result<Ahead, Suspend>
+    ensures { IfErr result (λ why. MaySuspend snap.now why) }
 {
     match call {
         Call::Create { name, how } => making(alloc, snap, names, name, how),
@@ -86,8 +86,8 @@ fn begin(
     names: &Names,
     searches: &mut Option<bool>,
     ahead: &mut Ahead,
-) -> Result<(), Stop>
-    ensures { IfErr result (λ why. MayStop snap.now why) }
+) -> Result<(), Suspend>
+    ensures { IfErr result (λ why. MaySuspend snap.now why) }
 {
     match behind_search(alloc, call, snap, names) {
         Ok(position) => {
@@ -95,7 +95,7 @@ fn begin(
             *ahead = position;
             Ok(())
         }
-        Err(stop) => Err(stop),
+        Err(suspend) => Err(suspend),
     }
 }
 
@@ -106,15 +106,15 @@ pub(crate) fn go_on_behind(
     call: &Call,
     snap: &Snap,
     names: &Names,
-    search: &Result<(), Stop>,
+    search: &Result<(), Suspend>,
     searches: &mut Option<bool>,
     ahead: &mut Ahead,
-) -> Option<Stop>
-    ensures { IfSome result (λ why. MayStop snap.now why) }
+) -> Option<Suspend>
+    ensures { IfSome result (λ why. MaySuspend snap.now why) }
 {
     if searches.is_some() && search.is_ok() && goes_on(call) {
-        if let Err(stop) = begin(alloc, call, snap, names, searches, ahead) {
-            return Some(stop);
+        if let Err(suspend) = begin(alloc, call, snap, names, searches, ahead) {
+            return Some(suspend);
         }
     }
     ahead.next(alloc, snap)

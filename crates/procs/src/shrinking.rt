@@ -1,10 +1,10 @@
 //! Which files free blocks by a call: those that it cuts, and those whose last name it takes.
 ghost use Rattle.std.specs.Prelude.{◌≡◌, IfErr};
-ghost use Rattle.inode.specs.Over.{MayStop};
+ghost use Rattle.inode.specs.Over.{MaySuspend};
 
 use crate::freeing::Freeing;
 use dir::Names;
-use inode::{Snap, Stop, held};
+use inode::{Snap, Suspend, held};
 use nfs_types::{CreateHow, DirectoryName, Handle};
 use procs_files::is_own_name;
 
@@ -13,7 +13,7 @@ pub(crate) fn cut_at(
     snap: &Snap,
     file: &Handle,
     size: Option<u64>,
-) -> Result<Option<Freeing>, Stop> {
+) -> Result<Option<Freeing>, Suspend> {
     match (file.parts(), size) {
         (Some((number, _)), Some(size)) => Freeing::cut(snap, number, size),
         _ => Ok(None),
@@ -21,7 +21,11 @@ pub(crate) fn cut_at(
 }
 
 /// What the file of a number asks for that is there when it is to be made.
-pub(crate) fn cut_for(snap: &Snap, number: u32, how: &CreateHow) -> Result<Option<Freeing>, Stop> {
+pub(crate) fn cut_for(
+    snap: &Snap,
+    number: u32,
+    how: &CreateHow,
+) -> Result<Option<Freeing>, Suspend> {
     match how {
         CreateHow::Unchecked(wanted) => match wanted.size {
             Some(size) => Freeing::cut(snap, number, size),
@@ -32,8 +36,12 @@ pub(crate) fn cut_for(snap: &Snap, number: u32, how: &CreateHow) -> Result<Optio
 }
 
 /// The number of the file to which a name leads, by what is known of the names of the call.
-pub(crate) fn named(snap: &Snap, names: &Names, name: &DirectoryName) -> Result<Option<u32>, Stop>
-    ensures { IfErr result (λ why. MayStop snap.now why) }
+pub(crate) fn named(
+    snap: &Snap,
+    names: &Names,
+    name: &DirectoryName,
+) -> Result<Option<u32>, Suspend>
+    ensures { IfErr result (λ why. MaySuspend snap.now why) }
 {
     let Some((number, _)) = name.directory.parts() else {
         return Ok(None);
@@ -41,8 +49,8 @@ pub(crate) fn named(snap: &Snap, names: &Names, name: &DirectoryName) -> Result<
     let Some(directory) = held(snap, number)? else {
         return Ok(None);
     };
-    match names.entry(snap, number, &directory, name.name.as_slice())? {
-        Some(entry) => Ok(Some(entry.number)),
+    match names.dirent(snap, number, &directory, name.name.as_slice())? {
+        Some(dirent) => Ok(Some(dirent.number)),
         None => Ok(None),
     }
 }
@@ -53,8 +61,8 @@ pub(crate) fn unnamed(
     names: &Names,
     name: &DirectoryName,
     is_directory: bool,
-) -> Result<Option<Freeing>, Stop>
-    ensures { IfErr result (λ why. MayStop snap.now why) }
+) -> Result<Option<Freeing>, Suspend>
+    ensures { IfErr result (λ why. MaySuspend snap.now why) }
 {
     let Some(number) = named(snap, names, name)? else {
         return Ok(None);

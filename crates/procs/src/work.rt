@@ -12,53 +12,40 @@ ghost use Rattle.procs.specs.Refused.{IsDoneWith, IsIoWhereRefused, NoneRead, No
 ghost use Rattle.procs.specs.SoundCalls.{SoundCall};
 ghost use Rattle.procs.specs.Steps.{IsStepOf, NoneStandFor};
 
-use crate::changing::change_call;
 use crate::done::Done;
-use crate::draft::Draft;
+use crate::first_file::{first_handle, read_file};
 use crate::next::Plan;
-use crate::reading::{first_handle, read_file};
+use crate::query_calls::{read_only_plan, tell_call};
 use crate::refused::refused_reply;
-use crate::telling::{tell_call, told};
+use crate::untested_plan::UntestedPlan;
+use crate::update_calls::change_call;
 use dir::Names;
-use inode::{Snap, Stop};
+use inode::{Snap, Suspend};
 use nfs_types::{Call, Ctx, Status};
 use procs_inspection::{is_refused, what_is_refused_is_in_no_tree};
 use std::alloc::Global;
 
 // What comes of a call that is served, or what stands in its way, by the one body of its procedure.
-fn answer(alloc: Global, ctx: &Ctx, call: &Call, snap: &Snap, names: &Names) -> Result<Draft, Stop>
+fn answer(
+    alloc: Global,
+    ctx: &Ctx,
+    call: &Call,
+    snap: &Snap,
+    names: &Names,
+) -> Result<UntestedPlan, Suspend>
     requires served { begins_transaction call.now ≡ true }
     requires known { IsKnown snap.now names.now }
     ensures made { IfOk result (λ done. IsMadeFor ctx.now call.now done) }
     ensures ok { IfOk result (λ done. EndsFrom snap.now done) }
     ensures step { IfOk result (λ done. IsStepOf snap.now.geometry ctx.now call.now done) }
-    ensures err { IfErr result (λ stop. IsNew snap.now stop) }
-    ensures asks { IfErr result (λ stop. IsAsked snap.now stop) }
-    ensures io { IfErr result (λ stop. NoneStandFor ctx.now call.now snap.now stop) }
+    ensures err { IfErr result (λ suspend. IsNew snap.now suspend) }
+    ensures asks { IfErr result (λ suspend. IsAsked snap.now suspend) }
+    ensures io { IfErr result (λ suspend. NoneStandFor ctx.now call.now snap.now suspend) }
 {
-    match call {
-        Call::GetAttr { .. }
-        | Call::Lookup { .. }
-        | Call::Access { .. }
-        | Call::ReadLink { .. }
-        | Call::Read { .. }
-        | Call::MkNod { .. }
-        | Call::ReadDir { .. }
-        | Call::ReadDirPlus { .. }
-        | Call::FsStat { .. }
-        | Call::FsInfo { .. }
-        | Call::PathConf { .. }
-        | Call::Commit { .. } => tell_call(alloc, ctx, call, snap, names),
-        Call::SetAttr { .. }
-        | Call::Write { .. }
-        | Call::Create { .. }
-        | Call::MkDir { .. }
-        | Call::SymLink { .. }
-        | Call::Remove { .. }
-        | Call::RmDir { .. }
-        | Call::Rename { .. }
-        | Call::Link { .. } => change_call(alloc, ctx, call, snap),
-        Call::Null => unreachable!(),
+    if call.facts().changes {
+        change_call(alloc, ctx, call, snap)
+    } else {
+        tell_call(alloc, ctx, call, snap, names)
     }
 }
 
@@ -70,34 +57,34 @@ fn answer_behind(
     call: &Call,
     snap: &Snap,
     names: &Names,
-) -> Result<Draft, Stop>
+) -> Result<UntestedPlan, Suspend>
     requires served { begins_transaction call.now ≡ true }
     requires known { IsKnown snap.now names.now }
     ensures made { IfOk result (λ done. IsMadeFor ctx.now call.now done) }
     ensures ok { IfOk result (λ done. EndsFrom snap.now done) }
     ensures step { IfOk result (λ done. IsStepOf snap.now.geometry ctx.now call.now done) }
-    ensures err { IfErr result (λ stop. IsNew snap.now stop) }
-    ensures asks { IfErr result (λ stop. IsAsked snap.now stop) }
-    ensures io { IfErr result (λ stop. NoneStandFor ctx.now call.now snap.now stop) }
+    ensures err { IfErr result (λ suspend. IsNew snap.now suspend) }
+    ensures asks { IfErr result (λ suspend. IsAsked snap.now suspend) }
+    ensures io { IfErr result (λ suspend. NoneStandFor ctx.now call.now snap.now suspend) }
     ensures sound { IfOk result (λ done. NoneRead snap.now → NoneRefusedIn snap.now call.now) }
 {
     match answer(alloc, ctx, call, snap, names) {
         Ok(done) => match first_handle(call) {
             Some(handle) => match read_file(snap, handle) {
                 Ok(()) => Ok(done),
-                Err(stop) => Err(stop),
+                Err(suspend) => Err(suspend),
             },
             None => Ok(done),
         },
-        Err(stop) => Err(stop),
+        Err(suspend) => Err(suspend),
     }
 }
 
 // Asks for the file of the call's first handle, where nothing was read yet.
-fn ask_first(call: &Call, snap: &Snap) -> Result<(), Stop>
-    ensures err { IfErr result (λ stop. IsNew snap.now stop) }
-    ensures asks { IfErr result (λ stop. IsAsked snap.now stop) }
-    ensures io { IfErr result (λ stop. NoneStand snap.now stop) }
+fn ask_first(call: &Call, snap: &Snap) -> Result<(), Suspend>
+    ensures err { IfErr result (λ suspend. IsNew snap.now suspend) }
+    ensures asks { IfErr result (λ suspend. IsAsked snap.now suspend) }
+    ensures io { IfErr result (λ suspend. NoneStand snap.now suspend) }
 {
     if !snap.objects.is_empty() {
         return Ok(());
@@ -115,62 +102,68 @@ fn answer_from_first(
     call: &Call,
     snap: &Snap,
     names: &Names,
-) -> Result<Draft, Stop>
+) -> Result<UntestedPlan, Suspend>
     requires served { begins_transaction call.now ≡ true }
     requires known { IsKnown snap.now names.now }
     ensures made { IfOk result (λ done. IsMadeFor ctx.now call.now done) }
     ensures ok { IfOk result (λ done. EndsFrom snap.now done) }
     ensures step { IfOk result (λ done. IsStepOf snap.now.geometry ctx.now call.now done) }
-    ensures err { IfErr result (λ stop. IsNew snap.now stop) }
-    ensures asks { IfErr result (λ stop. IsAsked snap.now stop) }
-    ensures io { IfErr result (λ stop. NoneStandFor ctx.now call.now snap.now stop) }
+    ensures err { IfErr result (λ suspend. IsNew snap.now suspend) }
+    ensures asks { IfErr result (λ suspend. IsAsked snap.now suspend) }
+    ensures io { IfErr result (λ suspend. NoneStandFor ctx.now call.now snap.now suspend) }
     ensures sound { IfOk result (λ done. NoneRead snap.now → NoneRefusedIn snap.now call.now) }
 {
     match ask_first(call, snap) {
         Ok(()) => answer_behind(alloc, ctx, call, snap, names),
-        Err(stop) => Err(stop),
+        Err(suspend) => Err(suspend),
     }
 }
 
 // The same, where nothing that was read is refused. All of it is looked through once, when nothing more is to be
 // read.
-fn work(alloc: Global, ctx: &Ctx, call: &Call, snap: &Snap, names: &Names) -> Result<Draft, Stop>
+fn work(
+    alloc: Global,
+    ctx: &Ctx,
+    call: &Call,
+    snap: &Snap,
+    names: &Names,
+) -> Result<UntestedPlan, Suspend>
     requires served { begins_transaction call.now ≡ true }
     requires known { IsKnown snap.now names.now }
     ensures made { IfOk result (λ done. IsMadeFor ctx.now call.now done) }
     ensures ok { IfOk result (λ done. EndsFrom snap.now done) }
     ensures step { IfOk result (λ done. IsStepOf snap.now.geometry ctx.now call.now done) }
-    ensures err { IfErr result (λ stop. IsNew snap.now stop) }
-    ensures asks { IfErr result (λ stop. IsAsked snap.now stop) }
-    ensures io { IfErr result (λ stop. NoneStandFor ctx.now call.now snap.now stop) }
+    ensures err { IfErr result (λ suspend. IsNew snap.now suspend) }
+    ensures asks { IfErr result (λ suspend. IsAsked snap.now suspend) }
+    ensures io { IfErr result (λ suspend. NoneStandFor ctx.now call.now snap.now suspend) }
     ensures sound { IfOk result (λ done. NoneRefusedIn snap.now call.now × NoneRead snap.now) }
 {
     match answer_from_first(alloc, ctx, call, snap, names) {
         Ok(done) => {
             if is_refused(snap, names) {
                 what_is_refused_is_in_no_tree();
-                return Err(Stop::Io);
+                return Err(Suspend::Io);
             }
             Ok(done)
         }
-        Err(stop) => Err(stop),
+        Err(suspend) => Err(suspend),
     }
 }
 
 // A call is done.
-fn finish(ctx: &Ctx, call: &Call, snap: &Snap, draft: Draft) -> Plan
+fn finish(ctx: &Ctx, call: &Call, snap: &Snap, untested_plan: UntestedPlan) -> Plan
     requires sound { SoundCall ctx.now.credential ctx.now.moment call.now }
     requires served { begins_transaction call.now ≡ true }
-    requires made { IsMadeFor ctx.now call.now draft }
-    requires ends { EndsFrom snap.now draft }
-    requires step { IsStepOf snap.now.geometry ctx.now call.now draft }
+    requires made { IsMadeFor ctx.now call.now untested_plan }
+    requires ends { EndsFrom snap.now untested_plan }
+    requires step { IsStepOf snap.now.geometry ctx.now call.now untested_plan }
     ensures plan { IsPlanFor snap.now result }
     ensures step { IsStepPlan snap.now.geometry ctx.now call.now result }
-    ensures done { IsDoneWith draft result }
+    ensures done { IsDoneWith untested_plan result }
     ensures made { IsPlanOf ctx.now call.now result }
 {
-    draft.few();
-    Plan::Done(Done::new(draft))
+    untested_plan.few();
+    Plan::Done(Done::new(untested_plan))
 }
 
 /// A run of the procedure over what was read so far, and by what is known of the call's names: what the call needs
@@ -188,10 +181,16 @@ pub(crate) fn run(alloc: Global, ctx: &Ctx, call: &Call, snap: &Snap, names: &Na
 {
     match work(alloc, ctx, call, snap, names) {
         Ok(done) => finish(ctx, call, snap, done),
-        Err(Stop::Need(addr, mode)) => Plan::Need(addr, mode),
-        Err(Stop::Claim(block)) => Plan::Claim(block),
-        Err(Stop::NoMemory) => Plan::NoMemory,
-        Err(Stop::Io) => match told(alloc, ctx, call, snap, refused_reply(call, Status::Io)) {
+        Err(Suspend::Need(addr, mode)) => Plan::Need(addr, mode),
+        Err(Suspend::Claim(block)) => Plan::Claim(block),
+        Err(Suspend::NoMemory) => Plan::NoMemory,
+        Err(Suspend::Io) => match read_only_plan(
+            alloc,
+            ctx,
+            call,
+            snap,
+            refused_reply(call, Status::Io),
+        ) {
             Ok(done) => finish(ctx, call, snap, done),
             Err(_) => Plan::NoMemory,
         },

@@ -4,12 +4,12 @@
 ghost use Rattle.std.specs.Prelude.{◌≡◌, ◌+◌, ◌<◌, ◌≤◌, true, IfErr, IfOk};
 ghost use Rattle.base.specs.declared.TheConstants.{FILE_INDEXES, LARGEST_FILE};
 ghost use Rattle.layout.specs.Places.{is_data};
-ghost use Rattle.inode.specs.Over.{MayStop};
+ghost use Rattle.inode.specs.Over.{MaySuspend};
 
 use crate::free::{FreeBlocks, Room};
 use base::{BLOCK_BYTES, DIRECT_INDEXES, FIRST_DOUBLE_INDEX, INDIRECT_INDEXES, LARGEST_FILE};
 use disk::BlockNo;
-use inode::{Snap, Stop, block_number, data_block, held, inner_number};
+use inode::{Snap, Suspend, block_number, data_block, held, inner_number};
 use inode_data::unmapped;
 use layout::{Inode, InodeKind};
 use nfs_types::Handle;
@@ -29,20 +29,20 @@ pub(crate) struct Writing {
     room: Room,
     free: FreeBlocks,
     owed: u32,
-    has_far: bool,
+    has_indirect: bool,
     has_double: bool,
     inner: usize,
     ghost within: { past ≤ FILE_INDEXES },
 }
 
 // Asks to claim a data block that is written as a whole, unless it was read.
-fn ask_whole(snap: &Snap, number: u32) -> Result<(), Stop>
+fn ask_whole(snap: &Snap, number: u32) -> Result<(), Suspend>
     requires { is_data snap.now.geometry number ≡ true }
-    ensures { IfErr result (λ why. MayStop snap.now why) }
+    ensures { IfErr result (λ why. MaySuspend snap.now why) }
 {
     let block = BlockNo(number);
     if snap.get(Addr::whole(block)).is_none() && !snap.has_claim(block) {
-        return Err(Stop::Claim(block));
+        return Err(Suspend::Claim(block));
     }
     Ok(())
 }
@@ -54,7 +54,7 @@ impl Writing {
         file: &Handle,
         offset: u64,
         count: usize,
-    ) -> Result<Option<Writing>, Stop> {
+    ) -> Result<Option<Writing>, Suspend> {
         let Some((number, _)) = file.parts() else {
             return Ok(None);
         };
@@ -76,7 +76,7 @@ impl Writing {
             room: Room::begin(),
             free: FreeBlocks::begin(),
             owed: 0,
-            has_far: inode.indirect != 0,
+            has_indirect: inode.indirect != 0,
             has_double: inode.double != 0,
             inner: INDIRECT_INDEXES,
         }))
@@ -91,19 +91,19 @@ impl Writing {
     }
 
     // How many pointer blocks are owed for a block at an index that isn't mapped.
-    fn owe_pointers(&mut self, snap: &Snap, index: usize) -> Result<u32, Stop>
+    fn owe_pointers(&mut self, snap: &Snap, index: usize) -> Result<u32, Suspend>
         requires { index < FILE_INDEXES }
         ensures few { IfOk result (λ owed. owed ≤ 2) }
-        ensures err { IfErr result (λ why. MayStop snap.now why) }
+        ensures err { IfErr result (λ why. MaySuspend snap.now why) }
     {
         if index < DIRECT_INDEXES {
             return Ok(0);
         }
         if index < FIRST_DOUBLE_INDEX {
-            if self.has_far {
+            if self.has_indirect {
                 return Ok(0);
             }
-            self.has_far = true;
+            self.has_indirect = true;
             return Ok(1);
         }
         let inner = (index - FIRST_DOUBLE_INDEX) / INDIRECT_INDEXES;
@@ -124,9 +124,9 @@ impl Writing {
 
     // Asks for the block at an index. Where there is none a free one is owed, and one for each pointer block that there
     // isn't either.
-    fn ask(&mut self, snap: &Snap, index: usize) -> Result<(), Stop>
+    fn ask(&mut self, snap: &Snap, index: usize) -> Result<(), Suspend>
         requires { index < FILE_INDEXES }
-        ensures { IfErr result (λ why. MayStop snap.now why) }
+        ensures { IfErr result (λ why. MaySuspend snap.now why) }
     {
         let number = block_number(snap, &self.inode, index)?;
         if number == 0 {
@@ -141,8 +141,8 @@ impl Writing {
     }
 
     // Asks for the free blocks that are owed.
-    fn pay(&mut self, snap: &Snap) -> Result<(), Stop>
-        ensures { IfErr result (λ why. MayStop snap.now why) }
+    fn pay(&mut self, snap: &Snap) -> Result<(), Suspend>
+        ensures { IfErr result (λ why. MaySuspend snap.now why) }
     {
         'owed: while self.owed > 0 {
             self.free.take(snap)?;
@@ -152,8 +152,8 @@ impl Writing {
     }
 
     /// Asks for the next object or block that wasn't read or claimed.
-    pub(crate) fn go_on(&mut self, snap: &Snap) -> Result<(), Stop>
-        ensures { IfErr result (λ why. MayStop snap.now why) }
+    pub(crate) fn go_on(&mut self, snap: &Snap) -> Result<(), Suspend>
+        ensures { IfErr result (λ why. MaySuspend snap.now why) }
     {
         if !self.room.is_for(snap, self.wanted)? {
             return Ok(());

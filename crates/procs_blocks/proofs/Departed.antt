@@ -6,24 +6,24 @@ use Rattle.std.specs.Ordering.{eq_by_cmp, nat_cmp}
 use Rattle.nfs_spec.specs.Model.Node.{Body, Node}
 use Rattle.nfs_spec.specs.Model.Node as model
 use Rattle.nfs_spec.specs.Model.Tree.{Tree, with_node}
-use Rattle.nfs_spec.specs.Procedures.Changes.{without_entry}
+use Rattle.nfs_spec.specs.Procedures.Changes.{without_dirent}
 use Rattle.nfs_spec.specs.Procedures.Rename.{with_parent}
-use Rattle.procs_files.specs.declared.head.Head.{Head}
+use Rattle.procs_files.specs.declared.inode_attributes.InodeAttributes.{InodeAttributes}
 use Rattle.procs_files.specs.Heads.{IsBodyOf}
 
-pub departs_body : (head : Head) (name : List ℕ) (body : Body) → IsBodyOf head body
-    → IsBodyOf head (with_parent head.parent (without_entry name body))
-departs_body head name (model.Regular bytes mapped) fits = fits
-departs_body head name (model.Directory named span parent) fits =
+pub departs_body : (inode_attributes : InodeAttributes) (name : List ℕ) (body : Body) → IsBodyOf inode_attributes body
+    → IsBodyOf inode_attributes (with_parent inode_attributes.parent (without_dirent name body))
+departs_body inode_attributes name (model.Regular bytes mapped) fits = fits
+departs_body inode_attributes name (model.Directory named span parent) fits =
     record { kind = fits.kind; size = fits.size; used = fits.used; parent = refl }
-departs_body head name (model.Link target) fits = fits
+departs_body inode_attributes name (model.Link target) fits = fits
 
-pub same_parent : (head : Head) (name : List ℕ) (body : Body) → IsBodyOf head body
-    → with_parent head.parent (without_entry name body) ≡ without_entry name body
-same_parent head name (model.Regular bytes mapped) fits = refl
-same_parent head name (model.Directory named span parent) fits =
+pub same_parent : (inode_attributes : InodeAttributes) (name : List ℕ) (body : Body) → IsBodyOf inode_attributes body
+    → with_parent inode_attributes.parent (without_dirent name body) ≡ without_dirent name body
+same_parent inode_attributes name (model.Regular bytes mapped) fits = refl
+same_parent inode_attributes name (model.Directory named span parent) fits =
     ap (λ p. model.Directory (remove named name) span p) (sym fits.parent)
-same_parent head name (model.Link target) fits = refl
+same_parent inode_attributes name (model.Link target) fits = refl
 
 pub twice : (tree : Tree) (n : ℕ) (a b : Node) → with_node (with_node tree n a) n b ≡ with_node tree n b
 twice tree n a b = λ i. record { geometry = tree.geometry; nodes = nodes i }

@@ -5,7 +5,7 @@ use Rattle.std.specs.FinMap.{get}
 use Rattle.std.specs.Option.{option_map}
 use Rattle.base.specs.declared.TheConstants.{SLOTS_PER_BLOCK, TRANSFER_BYTES}
 use Rattle.disk.specs.Crash.{Image}
-use Rattle.nfs_spec.specs.Model.Node.{DirectoryEntry}
+use Rattle.nfs_spec.specs.Model.Node.{DirentValue}
 use Rattle.nfs_spec.specs.Model.Tree.{Tree}
 use Rattle.layout.specs.declared.geometry.Geometry.{Geometry}
 use Rattle.layout.specs.declared.inode.Inode.{Inode}
@@ -14,13 +14,13 @@ use Rattle.layout.specs.declared.inode.InodeKind.TheVariants as kinds
 use Rattle.layout.specs.Decode.{body_of, entries_in, span_of}
 use Rattle.layout.specs.Decode as decode
 use Rattle.layout.specs.Parts.{content_in}
-use Rattle.nfs_spec.specs.Procedures.Places.{entry_at, least_free_slot}
+use Rattle.nfs_spec.specs.Procedures.Places.{dirent_at, least_free_slot}
 use Rattle.nfs_spec.specs.Procedures.Read.{bytes_of, piece}
 use Rattle.nfs_spec.specs.Procedures.ReadLink.{target_of}
 use Rattle.nfs_spec.specs.Procedures.RmDir.{has_names}
-use Rattle.procs_files.specs.declared.entry.Entry.{Entry}
-use Rattle.procs_files.specs.declared.entry.SlotName.{SlotName}
-use Rattle.procs_files.specs.Heads.{IsNextName, entry_of}
+use Rattle.procs_files.specs.declared.dirent.SlotDirent.{SlotDirent}
+use Rattle.procs_files.specs.declared.dirent.SlotName.{SlotName}
+use Rattle.procs_files.specs.Heads.{IsNextName, dirent_of}
 use Rattle.inode.specs.declared.snap.Snap.{Snap}
 use Rattle.inode.specs.Over.{all_bytes}
 use Rattle.inode.specs.Shown.{body_in}
@@ -32,19 +32,19 @@ module _ (g : Geometry) (blocks : Image) (inode : Inode) where
   abbrev content : Image
   content = content_in g blocks
 
-  pub directory_entry : (name : List ℕ) (found : Option Entry) → inode.kind ≡ kinds.Directory
-      → option_map entry_of found ≡ get (entries_in g.inodes content inode) name
-      → option_map entry_of found ≡ entry_at (body_in g blocks inode) name
-  directory_entry name found is found_is =
-      found_is ∙ ap (λ kind. entry_at (body_of g.inodes content kind inode) name) (sym is)
+  pub directory_dirent : (name : List ℕ) (found : Option SlotDirent) → inode.kind ≡ kinds.Directory
+      → option_map dirent_of found ≡ get (entries_in g.inodes content inode) name
+      → option_map dirent_of found ≡ dirent_at (body_in g blocks inode) name
+  directory_dirent name found is found_is =
+      found_is ∙ ap (λ kind. dirent_at (body_of g.inodes content kind inode) name) (sym is)
 
-  pub regular_entry : (name : List ℕ) → inode.kind ≡ kinds.Regular
-      → ◌≡◌ {A = Option DirectoryEntry} None (entry_at (body_in g blocks inode) name)
-  regular_entry name is = ap (λ kind. entry_at (body_of g.inodes content kind inode) name) (sym is)
+  pub regular_dirent : (name : List ℕ) → inode.kind ≡ kinds.Regular
+      → ◌≡◌ {A = Option DirentValue} None (dirent_at (body_in g blocks inode) name)
+  regular_dirent name is = ap (λ kind. dirent_at (body_of g.inodes content kind inode) name) (sym is)
 
-  pub link_entry : (name : List ℕ) → inode.kind ≡ kinds.Link
-      → ◌≡◌ {A = Option DirectoryEntry} None (entry_at (body_in g blocks inode) name)
-  link_entry name is = ap (λ kind. entry_at (body_of g.inodes content kind inode) name) (sym is)
+  pub link_dirent : (name : List ℕ) → inode.kind ≡ kinds.Link
+      → ◌≡◌ {A = Option DirentValue} None (dirent_at (body_in g blocks inode) name)
+  link_dirent name is = ap (λ kind. dirent_at (body_of g.inodes content kind inode) name) (sym is)
 
   pub regular_names : (from : ℕ) → inode.kind ≡ kinds.Regular → IsNextName (body_in g blocks inode) from None
   regular_names from is =

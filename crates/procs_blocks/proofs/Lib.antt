@@ -1,7 +1,7 @@
-pub mod Told
+pub mod InodeNodes
 pub mod InFiles
 pub mod SetThere
-pub mod Drafts
+pub mod WriteSets
 pub mod Departed
 pub mod MadeThere
 pub mod EnteredThere

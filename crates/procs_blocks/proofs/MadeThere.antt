@@ -9,14 +9,14 @@ use Rattle.std.specs.Ordering.{nat_cmp}
 use Rattle.std.proofs.lemmas.Bool.{eq-eqb, le-leb, lt-ltb}
 use Rattle.base.specs.declared.TheConstants.{TARGET_BYTES, DIRECT_INDEXES}
 use Rattle.disk.specs.Crash.{Image}
-use Rattle.nfs_types.specs.declared.attributes.FileKind.TheVariants as told
+use Rattle.nfs_types.specs.declared.attributes.FileKind.TheVariants as file_kinds
 use Rattle.nfs_types.specs.Fits.{VerifierFits}
 use Rattle.nfs_spec.specs.Model.Names.{parent_of}
 use Rattle.nfs_spec.specs.Model.Cost.{cost}
 use Rattle.nfs_spec.specs.Model.Node as model
 use Rattle.nfs_spec.specs.Model.Sound.{SoundBody, SoundTarget}
-use Rattle.procs_files.specs.declared.head.Head.{Head}
-use Rattle.procs_files.specs.Changing.{SoundHead, first_body}
+use Rattle.procs_files.specs.declared.inode_attributes.InodeAttributes.{InodeAttributes}
+use Rattle.procs_files.specs.Writable.{SoundInodeAttributes, first_body}
 use Rattle.procs_files.specs.Heads.{IsBodyOf, is_kind_directory, is_kind_regular, node_of}
 use Rattle.layout.specs.declared.geometry.Geometry.{Geometry}
 use Rattle.layout.specs.declared.inode.Inode.{Inode}
@@ -25,7 +25,7 @@ use Rattle.layout.specs.declared.inode.InodeKind.TheVariants as kinds
 use Rattle.layout.specs.Decode.{body_of, mapped_of, named_in, node_with, numbers_of}
 use Rattle.layout.specs.Geometry.{data_at}
 use Rattle.layout.specs.Places.{is_data}
-use Rattle.layout.proofs.FileNumbers.{near_pass}
+use Rattle.layout.proofs.FileNumbers.{direct_pass}
 use Rattle.layout.proofs.OnGrid.{data_within}
 use Rattle.layout.proofs.Written.{not_same}
 use Rattle.bitmap.specs.Inodes.Linked.{linked}
@@ -43,12 +43,12 @@ zeros_below : (n : ℕ) → AllByRecursion (λ number. number < 2 ^ 32) (replica
 zeros_below zero = tt
 zeros_below (suc n) = (omega arith, zeros_below n)
 
-module _ (g : Geometry) (image : Image) (inodes : ℕ) (head : Head) (sound : SoundHead inodes head)
+module _ (g : Geometry) (image : Image) (inodes : ℕ) (inode_attributes : InodeAttributes) (sound : SoundInodeAttributes inodes inode_attributes)
     (same : inodes ≡ g.inodes) where
   abbrev made : InodeKind → Inode
-  made kind = emptied (inode_of head kind)
+  made kind = emptied (inode_of inode_attributes kind)
 
-  fits : (kind : InodeKind) → IfSome head.verifier VerifierFits → head.parent < 2 ^ 32
+  fits : (kind : InodeKind) → IfSome inode_attributes.verifier VerifierFits → inode_attributes.parent < 2 ^ 32
       → is_sound_kind g kind (made kind) ≡ true → SoundInode g (made kind)
   unfolding is_sound_inode
   fits kind verifier parent good = record {
@@ -73,23 +73,23 @@ module _ (g : Geometry) (image : Image) (inodes : ℕ) (head : Head) (sound : So
     good = good;
   }
 
-  pub regular_sound : head.kind ≡ told.Regular → head.parent ≡ 0 → SoundInode g (made kinds.Regular)
+  pub regular_sound : inode_attributes.kind ≡ file_kinds.Regular → inode_attributes.parent ≡ 0 → SoundInode g (made kinds.Regular)
   regular_sound is none =
-      fits kinds.Regular (made_of g image inodes (made kinds.Regular) head sound same told.Regular (sym is))
+      fits kinds.Regular (made_of g image inodes (made kinds.Regular) inode_attributes sound same file_kinds.Regular (sym is))
       (omega (arith, none))
-      (λ i. file_good g image inodes (made kinds.Regular) head sound same i && true
-      && (true && eq-eqb head.parent 0 none i))
+      (λ i. file_good g image inodes (made kinds.Regular) inode_attributes sound same i && true
+      && (true && eq-eqb inode_attributes.parent 0 none i))
 
-  pub directory_sound : head.kind ≡ told.Directory → SoundInode g (made kinds.Directory)
+  pub directory_sound : inode_attributes.kind ≡ file_kinds.Directory → SoundInode g (made kinds.Directory)
   directory_sound is =
-      let range = in_range g image inodes (made kinds.Directory) head sound same is in
-      let none = made_of g image inodes (made kinds.Directory) head sound same told.Directory (sym is) in
-      let most : head.parent < g.inodes = let less = range.2 in omega (arith, less, same) in
-      fits kinds.Directory (no_verifier g image inodes (made kinds.Directory) head sound same head.verifier none)
+      let range = in_range g image inodes (made kinds.Directory) inode_attributes sound same is in
+      let none = made_of g image inodes (made kinds.Directory) inode_attributes sound same file_kinds.Directory (sym is) in
+      let most : inode_attributes.parent < g.inodes = let less = range.2 in omega (arith, less, same) in
+      fits kinds.Directory (no_verifier g image inodes (made kinds.Directory) inode_attributes sound same inode_attributes.verifier none)
       (let few = g.lawful.1.1 in omega (arith, most, few))
-      (λ i. file_good g image inodes (made kinds.Directory) head sound same i && true
-      && (le-leb 2 head.nlink range.0 i && true && true && lt-ltb 0 head.parent range.1 i
-      && lt-ltb head.parent g.inodes most i && true && true && true && is_none (none i)))
+      (λ i. file_good g image inodes (made kinds.Directory) inode_attributes sound same i && true
+      && (le-leb 2 inode_attributes.nlink range.0 i && true && true && lt-ltb 0 inode_attributes.parent range.1 i
+      && lt-ltb inode_attributes.parent g.inodes most i && true && true && true && is_none (none i)))
 
 -- ---- what is in it
 
@@ -114,7 +114,7 @@ none_mapped numbers e =
 
 module _ (inodes : ℕ) (content : Image) (inode : Inode) where
   no_numbers : list_all (λ n. nat_eq n 0) (numbers_of content (emptied inode)) ≡ true
-  no_numbers = near_pass content (emptied inode) refl refl (λ n. nat_eq n 0) refl refl
+  no_numbers = direct_pass content (emptied inode) refl refl (λ n. nat_eq n 0) refl refl
 
   pub regular_empty : body_of inodes content kinds.Regular (emptied inode) ≡ model.Regular [] set.empty
   regular_empty = ap (model.Regular []) (none_mapped (numbers_of content (emptied inode)) no_numbers)
@@ -126,59 +126,59 @@ module _ (inodes : ℕ) (content : Image) (inode : Inode) where
 
 -- ---- the files that are made
 
-pub regular_node : (g : Geometry) (image : Image) (head : Head) (target : List ℕ) → head.kind ≡ told.Regular
-    → node_with (emptied (inode_of head kinds.Regular))
-    (body_in g image (emptied (inode_of head kinds.Regular)))
-    ≡ node_of head (first_body head target)
-regular_node g image head target is =
-    ap (node_of head) (regular_empty g.inodes (content_in g image) (inode_of head kinds.Regular)
-    ∙ sym (ap (λ kind. cond (is_kind_directory kind) (model.Directory map.empty 0 head.parent)
+pub regular_node : (g : Geometry) (image : Image) (inode_attributes : InodeAttributes) (target : List ℕ) → inode_attributes.kind ≡ file_kinds.Regular
+    → node_with (emptied (inode_of inode_attributes kinds.Regular))
+    (body_in g image (emptied (inode_of inode_attributes kinds.Regular)))
+    ≡ node_of inode_attributes (first_body inode_attributes target)
+regular_node g image inode_attributes target is =
+    ap (node_of inode_attributes) (regular_empty g.inodes (content_in g image) (inode_of inode_attributes kinds.Regular)
+    ∙ sym (ap (λ kind. cond (is_kind_directory kind) (model.Directory map.empty 0 inode_attributes.parent)
     (cond (is_kind_regular kind) (model.Regular [] set.empty) (model.Link target))) is))
 
-pub directory_node : (g : Geometry) (image : Image) (head : Head) (target : List ℕ)
-    → head.kind ≡ told.Directory
-    → node_with (emptied (inode_of head kinds.Directory))
-    (body_in g image (emptied (inode_of head kinds.Directory)))
-    ≡ node_of head (first_body head target)
-directory_node g image head target is =
-    ap (node_of head) (directory_empty g.inodes (content_in g image) (inode_of head kinds.Directory)
-    ∙ sym (ap (λ kind. cond (is_kind_directory kind) (model.Directory map.empty 0 head.parent)
+pub directory_node : (g : Geometry) (image : Image) (inode_attributes : InodeAttributes) (target : List ℕ)
+    → inode_attributes.kind ≡ file_kinds.Directory
+    → node_with (emptied (inode_of inode_attributes kinds.Directory))
+    (body_in g image (emptied (inode_of inode_attributes kinds.Directory)))
+    ≡ node_of inode_attributes (first_body inode_attributes target)
+directory_node g image inode_attributes target is =
+    ap (node_of inode_attributes) (directory_empty g.inodes (content_in g image) (inode_of inode_attributes kinds.Directory)
+    ∙ sym (ap (λ kind. cond (is_kind_directory kind) (model.Directory map.empty 0 inode_attributes.parent)
     (cond (is_kind_regular kind) (model.Regular [] set.empty) (model.Link target))) is))
 
 -- what is no directory has no parent, and what is no device and no socket is a file
-pub no_parent : (head : Head) (target : List ℕ) → head.kind ≡ told.Regular
-    → IsBodyOf head (first_body head target) → head.parent ≡ 0
-no_parent head target is fits =
-    sym fits.parent ∙ ap (λ kind. parent_of (cond (is_kind_directory kind) (model.Directory map.empty 0 head.parent)
+pub no_parent : (inode_attributes : InodeAttributes) (target : List ℕ) → inode_attributes.kind ≡ file_kinds.Regular
+    → IsBodyOf inode_attributes (first_body inode_attributes target) → inode_attributes.parent ≡ 0
+no_parent inode_attributes target is fits =
+    sym fits.parent ∙ ap (λ kind. parent_of (cond (is_kind_directory kind) (model.Directory map.empty 0 inode_attributes.parent)
     (cond (is_kind_regular kind) (model.Regular [] set.empty) (model.Link target)))) is
 
 -- ---- links
 
-link_body : (head : Head) (target : List ℕ) → head.kind ≡ told.Link → first_body head target ≡ model.Link target
-link_body head target is =
-    ap (λ kind. cond (is_kind_directory kind) (model.Directory map.empty 0 head.parent)
+link_body : (inode_attributes : InodeAttributes) (target : List ℕ) → inode_attributes.kind ≡ file_kinds.Link → first_body inode_attributes target ≡ model.Link target
+link_body inode_attributes target is =
+    ap (λ kind. cond (is_kind_directory kind) (model.Directory map.empty 0 inode_attributes.parent)
     (cond (is_kind_regular kind) (model.Regular [] set.empty) (model.Link target))) is
 
-pub link_node : (head : Head) (target : List ℕ) → head.kind ≡ told.Link
-    → node_with (inode_of head kinds.Link) (model.Link target) ≡ node_of head (first_body head target)
-link_node head target is = ap (node_of head) (sym (link_body head target is))
+pub link_node : (inode_attributes : InodeAttributes) (target : List ℕ) → inode_attributes.kind ≡ file_kinds.Link
+    → node_with (inode_of inode_attributes kinds.Link) (model.Link target) ≡ node_of inode_attributes (first_body inode_attributes target)
+link_node inode_attributes target is = ap (node_of inode_attributes) (sym (link_body inode_attributes target is))
 
-pub link_target : (head : Head) (target : List ℕ) → head.kind ≡ told.Link → SoundBody (first_body head target)
+pub link_target : (inode_attributes : InodeAttributes) (target : List ℕ) → inode_attributes.kind ≡ file_kinds.Link → SoundBody (first_body inode_attributes target)
     → SoundTarget target
-link_target head target is whole = subst SoundBody (link_body head target is) whole
+link_target inode_attributes target is whole = subst SoundBody (link_body inode_attributes target is) whole
 
-pub link_room : (head : Head) (target : List ℕ) (left : ℕ) → head.kind ≡ told.Link
-    → cost (first_body head target) ≤ left → 1 ≤ left
-link_room head target left is room = subst (λ b. cost b ≤ left) (link_body head target is) room
+pub link_space : (inode_attributes : InodeAttributes) (target : List ℕ) (left : ℕ) → inode_attributes.kind ≡ file_kinds.Link
+    → cost (first_body inode_attributes target) ≤ left → 1 ≤ left
+link_space inode_attributes target left is has_space = subst (λ b. cost b ≤ left) (link_body inode_attributes target is) has_space
 
-module _ (g : Geometry) (image : Image) (inodes : ℕ) (head : Head) (target : List ℕ) (sound : SoundHead inodes head)
-    (same : inodes ≡ g.inodes) (is : head.kind ≡ told.Link) (fits : IsBodyOf head (first_body head target))
+module _ (g : Geometry) (image : Image) (inodes : ℕ) (inode_attributes : InodeAttributes) (target : List ℕ) (sound : SoundInodeAttributes inodes inode_attributes)
+    (same : inodes ≡ g.inodes) (is : inode_attributes.kind ≡ file_kinds.Link) (fits : IsBodyOf inode_attributes (first_body inode_attributes target))
     (good : SoundTarget target) (block : ℕ) (lies : is_data g block ≡ true) where
   abbrev link : Inode
-  link = linked (inode_of head kinds.Link) (length target) block
+  link = linked (inode_of inode_attributes kinds.Link) (length target) block
 
-  no_parents : head.parent ≡ 0
-  no_parents = sym fits.parent ∙ ap parent_of (link_body head target is)
+  no_parents : inode_attributes.parent ≡ 0
+  no_parents = sym fits.parent ∙ ap parent_of (link_body inode_attributes target is)
 
   within : (data_at g.blocks g.inodes ≤ block) × (block < g.blocks)
   within = data_within g block lies
@@ -193,16 +193,16 @@ module _ (g : Geometry) (image : Image) (inodes : ℕ) (head : Head) (target : L
       by true = refl
       by false = lies
 
-  none : head.verifier ≡ None
-  none = made_of g image inodes link head sound same told.Link (sym is)
+  none : inode_attributes.verifier ≡ None
+  none = made_of g image inodes link inode_attributes sound same file_kinds.Link (sym is)
 
   named : names_first 1 link.direct ≡ true
   named = λ i. (not (some i) && true) && true
 
   link_good : is_sound_kind g kinds.Link link ≡ true
-  link_good = λ i. file_good g image inodes link head sound same i && ((placed i && true) && true && true && true)
+  link_good = λ i. file_good g image inodes link inode_attributes sound same i && ((placed i && true) && true && true && true)
       && (le-leb 1 (length target) (let more = good.some in omega (arith, more)) i
-      && le-leb (length target) TARGET_BYTES good.short i && eq-eqb head.parent 0 no_parents i
+      && le-leb (length target) TARGET_BYTES good.short i && eq-eqb inode_attributes.parent 0 no_parents i
       && named i && true && true && is_none (none i))
 
   pub link_sound : SoundInode g link
@@ -220,7 +220,7 @@ module _ (g : Geometry) (image : Image) (inodes : ℕ) (head : Head) (target : L
       boot = sound.stamp.boot;
       transaction = sound.stamp.transaction;
       parent = let zero = no_parents in omega (arith, zero);
-      verifier = no_verifier g image inodes link head sound same head.verifier none;
+      verifier = no_verifier g image inodes link inode_attributes sound same inode_attributes.verifier none;
       count = refl;
       direct = (let low = within.1 in let most = g.lawful.0.1 in omega (arith, low, most), zeros_below 7);
       indirect = omega arith;

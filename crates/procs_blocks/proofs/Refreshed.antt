@@ -10,37 +10,37 @@ use Rattle.nfs_spec.specs.Model.Node as model
 use Rattle.nfs_spec.specs.Model.Tree.{Tree, node_at}
 use Rattle.nfs_spec.specs.Procedures.Rename.{with_parent}
 use Rattle.nfs_spec.specs.Procedures.Write.{with_text}
-use Rattle.procs_files.specs.declared.head.Head.{Head}
-use Rattle.procs_files.specs.Changing.{SoundHead, headed}
+use Rattle.procs_files.specs.declared.inode_attributes.InodeAttributes.{InodeAttributes}
+use Rattle.procs_files.specs.Writable.{SoundInodeAttributes, headed}
 use Rattle.procs_files.specs.Heads.{IsBodyOf, IsFileAt, node_of}
 
 -- what was read of the file is what is in it
-pub read_size : (tree : Tree) (n : ℕ) (found : Head) (node : Node) → IsFileAt tree n (Some found)
+pub read_size : (tree : Tree) (n : ℕ) (found : InodeAttributes) (node : Node) → IsFileAt tree n (Some found)
     → node_at tree n ≡ Some node → (found.size ≡ size_of node.body) × (found.used ≡ BLOCK_BYTES * cost node.body)
-read_size tree n found node told was =
-    let body = told.1.0 in
+read_size tree n found node proven was =
+    let body = proven.1.0 in
     let is : node_of found body ≡ node =
     ap (λ (o : Option Node). unwrap_or o node)
-    (sym told.1.1.there ∙ ap (node_at tree) told.0 ∙ was) in
+    (sym proven.1.1.there ∙ ap (node_at tree) proven.0 ∙ was) in
     let same : body ≡ node.body = ap (λ (one : Node). one.body) is in (
-      sym told.1.1.fits.size ∙ ap size_of same,
-      sym told.1.1.fits.used ∙ ap (λ (b : Body). BLOCK_BYTES * cost b) same,
+      sym proven.1.1.fits.size ∙ ap size_of same,
+      sym proven.1.1.fits.used ∙ ap (λ (b : Body). BLOCK_BYTES * cost b) same,
     )
 
-pub parent_kept : (parent : ℕ) (body : Body) → parent_of body ≡ parent → with_parent parent body ≡ body
-parent_kept parent (model.Regular bytes mapped) is = refl
-parent_kept parent (model.Directory named span old) is = ap (λ p. model.Directory named span p) (sym is)
-parent_kept parent (model.Link target) is = refl
+pub parent_preserved : (parent : ℕ) (body : Body) → parent_of body ≡ parent → with_parent parent body ≡ body
+parent_preserved parent (model.Regular bytes mapped) is = refl
+parent_preserved parent (model.Directory named span old) is = ap (λ p. model.Directory named span p) (sym is)
+parent_preserved parent (model.Link target) is = refl
 
-pub headed_fits : (head : Head) (body : Body) → kind_of body ≡ head.kind → parent_of body ≡ head.parent
-    → IsBodyOf (headed head body) (with_parent head.parent body)
-headed_fits head body kind parent =
-    subst (λ (b : Body). IsBodyOf (headed head body) b) (sym (parent_kept head.parent body parent))
+pub headed_fits : (inode_attributes : InodeAttributes) (body : Body) → kind_of body ≡ inode_attributes.kind → parent_of body ≡ inode_attributes.parent
+    → IsBodyOf (headed inode_attributes body) (with_parent inode_attributes.parent body)
+headed_fits inode_attributes body kind parent =
+    subst (λ (b : Body). IsBodyOf (headed inode_attributes body) b) (sym (parent_preserved inode_attributes.parent body parent))
     (record { kind = kind; size = refl; used = refl; parent = parent })
 
-pub headed_sound : (inodes : ℕ) (head : Head) (body : Body) → SoundHead inodes head
-    → SoundHead inodes (headed head body)
-headed_sound inodes head body sound = record {
+pub headed_sound : (inodes : ℕ) (inode_attributes : InodeAttributes) (body : Body) → SoundInodeAttributes inodes inode_attributes
+    → SoundInodeAttributes inodes (headed inode_attributes body)
+headed_sound inodes inode_attributes body sound = record {
   mode = sound.mode;
   uid = sound.uid;
   gid = sound.gid;
@@ -55,10 +55,10 @@ headed_sound inodes head body sound = record {
 }
 
 -- what is written changes neither the kind nor the parent
-pub kind_kept : (offset : ℕ) (text : List ℕ) (body : Body) → kind_of (with_text offset text body) ≡ kind_of body
-kind_kept offset text (model.Regular bytes mapped) = refl
-kind_kept offset text (model.Directory named span parent) = refl
-kind_kept offset text (model.Link target) = refl
+pub kind_preserved : (offset : ℕ) (text : List ℕ) (body : Body) → kind_of (with_text offset text body) ≡ kind_of body
+kind_preserved offset text (model.Regular bytes mapped) = refl
+kind_preserved offset text (model.Directory named span parent) = refl
+kind_preserved offset text (model.Link target) = refl
 
 pub parent_stays : (offset : ℕ) (text : List ℕ) (body : Body)
     → parent_of (with_text offset text body) ≡ parent_of body

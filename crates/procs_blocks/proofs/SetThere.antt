@@ -11,7 +11,7 @@ use Rattle.base.specs.declared.TheConstants.{BLOCK_BYTES, DIRECT_INDEXES, LARGES
 use Rattle.base.specs.declared.TheConstants.{MODE_BITS, MOST_LINKS, NANOSECONDS, TARGET_BYTES}
 use Rattle.disk.specs.Crash.{Image}
 use Rattle.nfs_types.specs.declared.attributes.FileKind.{FileKind}
-use Rattle.nfs_types.specs.declared.attributes.FileKind.TheVariants as told
+use Rattle.nfs_types.specs.declared.attributes.FileKind.TheVariants as file_kinds
 use Rattle.nfs_types.specs.declared.verifier.Verifier.{Verifier}
 use Rattle.nfs_types.specs.Fits.{VerifierFits}
 use Rattle.nfs_spec.specs.Model.Node.{Body, Node}
@@ -20,8 +20,8 @@ use Rattle.nfs_spec.specs.Model.Sound.{SoundVerifier}
 use Rattle.nfs_spec.specs.Model.Tree.{Tree, node_at, with_node}
 use Rattle.nfs_spec.specs.Model.Tree as trees
 use Rattle.nfs_spec.specs.Procedures.Rename.{with_parent}
-use Rattle.procs_files.specs.declared.head.Head.{Head}
-use Rattle.procs_files.specs.Changing.{SoundHead}
+use Rattle.procs_files.specs.declared.inode_attributes.InodeAttributes.{InodeAttributes}
+use Rattle.procs_files.specs.Writable.{SoundInodeAttributes}
 use Rattle.procs_files.specs.Heads.{IsBodyOf, is_kind_directory, is_kind_regular, node_of}
 use Rattle.layout.specs.declared.fault.LayoutFault.{LayoutFault}
 use Rattle.layout.specs.declared.fault.LayoutFault.TheVariants.{Range}
@@ -39,8 +39,8 @@ use Rattle.layout.specs.Parts.{content_in}
 use Rattle.inode.proofs.AllTests.{all_five, all_three, all_two}
 use Rattle.inode.proofs.InodeThere.{is_read}
 use Rattle.inode.specs.Shown.{body_in}
-use Rattle.inode.specs.Drafts.Attributes.{attributed}
-use Rattle.inode.proofs.DraftsLemmas.OneFile.{below_last}
+use Rattle.inode.specs.WriteSets.Attributes.{attributed}
+use Rattle.inode.proofs.WriteSetsLemmas.OneFile.{below_last}
 use Rattle.procs_blocks.specs.Heads.{looks_of}
 
 -- ---- the inode of a file
@@ -71,43 +71,43 @@ found g image tree n node holds was =
 
 -- ---- it is sound
 
-module _ (g : Geometry) (image : Image) (inodes : ℕ) (inode : Inode) (head : Head)
-    (sound : SoundHead inodes head)
+module _ (g : Geometry) (image : Image) (inodes : ℕ) (inode : Inode) (inode_attributes : InodeAttributes)
+    (sound : SoundInodeAttributes inodes inode_attributes)
     (same : inodes ≡ g.inodes) where
   abbrev new : Inode
-  new = attributed inode (looks_of head)
+  new = attributed inode (looks_of inode_attributes)
 
   pub file_good : is_sound_file new ≡ true
-  file_good = λ i. le-leb head.mode MODE_BITS sound.mode i
-      && le-leb 1 head.nlink (let some = sound.linked in omega (arith, some)) i
-      && le-leb head.nlink MOST_LINKS sound.nlink i
-      && lt-ltb head.atime.nanoseconds NANOSECONDS sound.atime.nanoseconds i
-      && lt-ltb head.mtime.nanoseconds NANOSECONDS sound.mtime.nanoseconds i
-      && lt-ltb head.ctime.nanoseconds NANOSECONDS sound.ctime.nanoseconds i
+  file_good = λ i. le-leb inode_attributes.mode MODE_BITS sound.mode i
+      && le-leb 1 inode_attributes.nlink (let some = sound.linked in omega (arith, some)) i
+      && le-leb inode_attributes.nlink MOST_LINKS sound.nlink i
+      && lt-ltb inode_attributes.atime.nanoseconds NANOSECONDS sound.atime.nanoseconds i
+      && lt-ltb inode_attributes.mtime.nanoseconds NANOSECONDS sound.mtime.nanoseconds i
+      && lt-ltb inode_attributes.ctime.nanoseconds NANOSECONDS sound.ctime.nanoseconds i
 
   all_eight : (a b c d e f h k : Bool) → (a && b && c && d && e && f && h && k) ≡ true
       → (b ≡ true) × (c ≡ true) × (f ≡ true) × (h ≡ true) × (k ≡ true)
   all_eight true true true true true true true true e = (refl, refl, refl, refl, refl)
   all_eight _ _ _ _ _ _ _ _ e = cc
 
-  pub made_of : (kind : FileKind) → kind ≡ head.kind
-      → SoundVerifier (cond (is_kind_directory kind) (model.Directory map.empty 0 head.parent)
-      (cond (is_kind_regular kind) (model.Regular [] set.empty) (model.Link []))) head.verifier
+  pub made_of : (kind : FileKind) → kind ≡ inode_attributes.kind
+      → SoundVerifier (cond (is_kind_directory kind) (model.Directory map.empty 0 inode_attributes.parent)
+      (cond (is_kind_regular kind) (model.Regular [] set.empty) (model.Link []))) inode_attributes.verifier
   made_of kind is =
-      subst (λ k. SoundVerifier (cond (is_kind_directory k) (model.Directory map.empty 0 head.parent)
-      (cond (is_kind_regular k) (model.Regular [] set.empty) (model.Link []))) head.verifier) (sym is)
+      subst (λ k. SoundVerifier (cond (is_kind_directory k) (model.Directory map.empty 0 inode_attributes.parent)
+      (cond (is_kind_regular k) (model.Regular [] set.empty) (model.Link []))) inode_attributes.verifier) (sym is)
       sound.verifier
 
-  pub in_range : head.kind ≡ told.Directory → (2 ≤ head.nlink) × (0 < head.parent) × (head.parent < inodes)
+  pub in_range : inode_attributes.kind ≡ file_kinds.Directory → (2 ≤ inode_attributes.nlink) × (0 < inode_attributes.parent) × (inode_attributes.parent < inodes)
   in_range is = sound.directory (ap is_kind_directory is)
 
   good : (kind : InodeKind) → is_sound_kind g kind inode ≡ true
-      → IsBodyOf head (with_parent head.parent (body_of g.inodes (content_in g image) kind inode))
+      → IsBodyOf inode_attributes (with_parent inode_attributes.parent (body_of g.inodes (content_in g image) kind inode))
       → is_sound_kind g kind new ≡ true
   good kinds.Regular old fits =
       let three = all_three (is_sound_file inode) (is_sound_map g inode) (is_sound_regular inode) old in
       let size = all_two (nat_le inode.size LARGEST_FILE) (nat_eq inode.parent 0) three.2 in
-      λ i. file_good i && three.1 i && (size.0 i && eq-eqb head.parent 0 (sym fits.parent) i)
+      λ i. file_good i && three.1 i && (size.0 i && eq-eqb inode_attributes.parent 0 (sym fits.parent) i)
   good kinds.Directory old fits =
       let three = all_three (is_sound_file inode) (is_sound_map g inode) (is_sound_directory g inode) old in
       let rest = all_eight (nat_le 2 inode.nlink) (nat_le inode.size LARGEST_DIRECTORY)
@@ -116,10 +116,10 @@ module _ (g : Geometry) (image : Image) (inodes : ℕ) (inode : Inode) (head : H
       (cond (nat_lt DIRECT_INDEXES (inode.size / BLOCK_BYTES)) (not (nat_eq inode.indirect 0))
       (nat_eq inode.indirect 0)) (nat_eq inode.double 0) (all_two _ (is_none inode.verifier) three.2).0 in
       let range = in_range (sym fits.kind) in
-      let most : head.parent < g.inodes = let less = range.2 in omega (arith, less, same) in
-      λ i. file_good i && three.1 i && (le-leb 2 head.nlink range.0 i && rest.0 i && rest.1 i
-      && lt-ltb 0 head.parent range.1 i && lt-ltb head.parent g.inodes most i && rest.2 i && rest.3 i && rest.4 i
-      && is_none (made_of told.Directory fits.kind i))
+      let most : inode_attributes.parent < g.inodes = let less = range.2 in omega (arith, less, same) in
+      λ i. file_good i && three.1 i && (le-leb 2 inode_attributes.nlink range.0 i && rest.0 i && rest.1 i
+      && lt-ltb 0 inode_attributes.parent range.1 i && lt-ltb inode_attributes.parent g.inodes most i && rest.2 i && rest.3 i && rest.4 i
+      && is_none (made_of file_kinds.Directory fits.kind i))
   good kinds.Link old fits =
       let three = all_three (is_sound_file inode) (is_sound_map g inode) (is_sound_link inode) old in
       let both = all_two (nat_le 1 inode.size && nat_le inode.size TARGET_BYTES && nat_eq inode.parent 0
@@ -129,29 +129,29 @@ module _ (g : Geometry) (image : Image) (inodes : ℕ) (inode : Inode) (head : H
       && names_first 1 inode.direct && nat_eq inode.indirect 0) (nat_eq inode.double 0) both.0 in
       let rest = all_five (nat_le 1 inode.size) (nat_le inode.size TARGET_BYTES) (nat_eq inode.parent 0)
       (names_first 1 inode.direct) (nat_eq inode.indirect 0) no_pointers.0 in
-      λ i. file_good i && three.1 i && (rest.0 i && rest.1 i && eq-eqb head.parent 0 (sym fits.parent) i
-      && rest.3 i && rest.4 i && no_pointers.1 i && is_none (made_of told.Link fits.kind i))
+      λ i. file_good i && three.1 i && (rest.0 i && rest.1 i && eq-eqb inode_attributes.parent 0 (sym fits.parent) i
+      && rest.3 i && rest.4 i && no_pointers.1 i && is_none (made_of file_kinds.Link fits.kind i))
 
   pub no_verifier : (verifier : Option Verifier) → verifier ≡ None → IfSome verifier VerifierFits
   no_verifier verifier is = subst (λ (v : Option Verifier). IfSome v VerifierFits) (sym is) tt
 
   verifier_fits : (kind : InodeKind)
-      → IsBodyOf head (with_parent head.parent (body_of g.inodes (content_in g image) kind inode))
-      → IfSome head.verifier VerifierFits
-  verifier_fits kinds.Regular fits = made_of told.Regular fits.kind
-  verifier_fits kinds.Directory fits = no_verifier head.verifier (made_of told.Directory fits.kind)
-  verifier_fits kinds.Link fits = no_verifier head.verifier (made_of told.Link fits.kind)
+      → IsBodyOf inode_attributes (with_parent inode_attributes.parent (body_of g.inodes (content_in g image) kind inode))
+      → IfSome inode_attributes.verifier VerifierFits
+  verifier_fits kinds.Regular fits = made_of file_kinds.Regular fits.kind
+  verifier_fits kinds.Directory fits = no_verifier inode_attributes.verifier (made_of file_kinds.Directory fits.kind)
+  verifier_fits kinds.Link fits = no_verifier inode_attributes.verifier (made_of file_kinds.Link fits.kind)
 
   parent_small : (kind : InodeKind)
-      → IsBodyOf head (with_parent head.parent (body_of g.inodes (content_in g image) kind inode))
-      → head.parent < 2 ^ 32
+      → IsBodyOf inode_attributes (with_parent inode_attributes.parent (body_of g.inodes (content_in g image) kind inode))
+      → inode_attributes.parent < 2 ^ 32
   parent_small kinds.Regular fits = let none = fits.parent in omega (arith, none)
   parent_small kinds.Directory fits =
       let range = (in_range (sym fits.kind)).2 in let few = g.lawful.1.1 in omega (arith, range, few, same)
   parent_small kinds.Link fits = let none = fits.parent in omega (arith, none)
 
   pub new_sound : SoundInode g inode
-      → IsBodyOf head (with_parent head.parent (body_in g image inode)) → SoundInode g new
+      → IsBodyOf inode_attributes (with_parent inode_attributes.parent (body_in g image inode)) → SoundInode g new
   unfolding is_sound_inode
   new_sound old fits = record {
     fits = record {
@@ -184,23 +184,23 @@ same_in inodes content inode looks kinds.Regular = refl
 same_in inodes content inode looks kinds.Directory = refl
 same_in inodes content inode looks kinds.Link = refl
 
-pub set_node : (g : Geometry) (image : Image) (inode : Inode) (head : Head) (node : Node)
+pub set_node : (g : Geometry) (image : Image) (inode : Inode) (inode_attributes : InodeAttributes) (node : Node)
     → node.body ≡ body_in g image inode
-    → node_with (attributed inode (looks_of head)) (body_in g image (attributed inode (looks_of head)))
-    ≡ node_of head (with_parent head.parent node.body)
-set_node g image inode head node is =
-    ap (node_of head) (same_in g.inodes (content_in g image) inode (looks_of head) inode.kind
-    ∙ ap (with_parent head.parent) (sym is))
+    → node_with (attributed inode (looks_of inode_attributes)) (body_in g image (attributed inode (looks_of inode_attributes)))
+    ≡ node_of inode_attributes (with_parent inode_attributes.parent node.body)
+set_node g image inode inode_attributes node is =
+    ap (node_of inode_attributes) (same_in g.inodes (content_in g image) inode (looks_of inode_attributes) inode.kind
+    ∙ ap (with_parent inode_attributes.parent) (sym is))
 
 -- the attributes that are written are sound
-pub set_sound : (g : Geometry) (image : Image) (tree : Tree) (head : Head) (node : Node)
-    (holds : Holds g image tree) (was : node_at tree head.number ≡ Some node)
-    → IsBodyOf head (with_parent head.parent node.body) → SoundHead tree.geometry.inodes head
-    → SoundInode g (attributed (found g image tree head.number node holds was).inode (looks_of head))
-set_sound g image tree head node holds was fits sound =
-    let one = found g image tree head.number node holds was in
-    new_sound g image tree.geometry.inodes one.inode head sound
+pub set_sound : (g : Geometry) (image : Image) (tree : Tree) (inode_attributes : InodeAttributes) (node : Node)
+    (holds : Holds g image tree) (was : node_at tree inode_attributes.number ≡ Some node)
+    → IsBodyOf inode_attributes (with_parent inode_attributes.parent node.body) → SoundInodeAttributes tree.geometry.inodes inode_attributes
+    → SoundInode g (attributed (found g image tree inode_attributes.number node holds was).inode (looks_of inode_attributes))
+set_sound g image tree inode_attributes node holds was fits sound =
+    let one = found g image tree inode_attributes.number node holds was in
+    new_sound g image tree.geometry.inodes one.inode inode_attributes sound
     (ap (λ (k : trees.Geometry). k.inodes) holds.parts.geometry)
-    (is_read g image tree head.number one.inode holds (below_last g image tree head.number node holds was)
+    (is_read g image tree inode_attributes.number one.inode holds (below_last g image tree inode_attributes.number node holds was)
     one.there)
-    (subst (λ (b : Body). IsBodyOf head (with_parent head.parent b)) one.body fits)
+    (subst (λ (b : Body). IsBodyOf inode_attributes (with_parent inode_attributes.parent b)) one.body fits)

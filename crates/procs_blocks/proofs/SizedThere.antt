@@ -3,7 +3,7 @@ use Rattle.std.proofs.Common.{◌≡◌, ℕ, zero, suc, ◌+◌, ◌-◌, ◌*�
 use Rattle.std.proofs.Common.{subst, length, length-append, take, replicate, Some, None, arith}
 use Rattle.base.specs.declared.TheConstants.{BLOCK_BYTES}
 use Rattle.disk.specs.Crash.{Image}
-use Rattle.nfs_types.specs.declared.attributes.FileKind.TheVariants as told
+use Rattle.nfs_types.specs.declared.attributes.FileKind.TheVariants as file_kinds
 use Rattle.nfs_spec.specs.Model.Attributes.{size_of}
 use Rattle.nfs_spec.specs.Model.Cost.{cost}
 use Rattle.nfs_spec.specs.Model.Node.{Body, Node}
@@ -11,8 +11,8 @@ use Rattle.nfs_spec.specs.Model.Node as model
 use Rattle.nfs_spec.specs.Model.SetAttr.{resized, with_length}
 use Rattle.nfs_spec.specs.Model.Tree.{Tree, node_at}
 use Rattle.nfs_spec.specs.Procedures.Rename.{with_parent}
-use Rattle.procs_files.specs.declared.head.Head.{Head}
-use Rattle.procs_files.specs.Changing.{SoundHead}
+use Rattle.procs_files.specs.declared.inode_attributes.InodeAttributes.{InodeAttributes}
+use Rattle.procs_files.specs.Writable.{SoundInodeAttributes}
 use Rattle.procs_files.specs.Heads.{IsBodyOf, is_kind_regular}
 use Rattle.layout.specs.declared.geometry.Geometry.{Geometry}
 use Rattle.layout.specs.declared.inode.Inode.{Inode}
@@ -20,7 +20,7 @@ use Rattle.layout.specs.Holds.{Holds}
 use Rattle.layout.specs.InodeForm.{SoundInode}
 use Rattle.layout.specs.Parts.{content_in}
 use Rattle.inode.specs.Shown.{body_in}
-use Rattle.inode.specs.Drafts.Attributes.{attributed}
+use Rattle.inode.specs.WriteSets.Attributes.{attributed}
 use Rattle.inode_sizes.specs.Sized.{IsUse}
 use Rattle.procs_blocks.specs.Heads.{looks_of}
 use Rattle.procs_blocks.proofs.SetThere.{found, same_in, set_sound}
@@ -41,43 +41,43 @@ resized-length bytes size =
     taken (suc n) [] = omega arith
     taken (suc n) (x ∷ xs) = let rest = taken n xs in omega (arith, rest)
 
-pub regular_size : (head : Head) (size : ℕ) (body : Body) → head.kind ≡ told.Regular → IsBodyOf head body
+pub regular_size : (inode_attributes : InodeAttributes) (size : ℕ) (body : Body) → inode_attributes.kind ≡ file_kinds.Regular → IsBodyOf inode_attributes body
     → size ≡ size_of (with_length (Some size) body)
-regular_size head size (model.Regular bytes mapped) is fits = sym (resized-length bytes size)
-regular_size head size (model.Directory named span parent) is fits =
-    let clash : told.Directory ≡ told.Regular = fits.kind ∙ is in cc
-regular_size head size (model.Link target) is fits =
-    let clash : told.Link ≡ told.Regular = fits.kind ∙ is in cc
+regular_size inode_attributes size (model.Regular bytes mapped) is fits = sym (resized-length bytes size)
+regular_size inode_attributes size (model.Directory named span parent) is fits =
+    let clash : file_kinds.Directory ≡ file_kinds.Regular = fits.kind ∙ is in cc
+regular_size inode_attributes size (model.Link target) is fits =
+    let clash : file_kinds.Link ≡ file_kinds.Regular = fits.kind ∙ is in cc
 
-pub other_size : (head : Head) (size : ℕ) (body : Body) → is_kind_regular head.kind ≡ false → IsBodyOf head body
-    → head.size ≡ size_of (with_length (Some size) body)
-other_size head size (model.Regular bytes mapped) other fits =
+pub other_size : (inode_attributes : InodeAttributes) (size : ℕ) (body : Body) → is_kind_regular inode_attributes.kind ≡ false → IsBodyOf inode_attributes body
+    → inode_attributes.size ≡ size_of (with_length (Some size) body)
+other_size inode_attributes size (model.Regular bytes mapped) other fits =
     let clash : true ≡ false = ap is_kind_regular fits.kind ∙ other in cc
-other_size head size (model.Directory named span parent) other fits = sym fits.size
-other_size head size (model.Link target) other fits = sym fits.size
+other_size inode_attributes size (model.Directory named span parent) other fits = sym fits.size
+other_size inode_attributes size (model.Link target) other fits = sym fits.size
 
-pub as_before : (head : Head) (body new : Body) → IsBodyOf head body → IsUse None body new
-    → head.used ≡ BLOCK_BYTES * cost new
-as_before head body new fits same = sym fits.used ∙ sym (ap (λ k. BLOCK_BYTES * k) same)
+pub as_before : (inode_attributes : InodeAttributes) (body new : Body) → IsBodyOf inode_attributes body → IsUse None body new
+    → inode_attributes.used ≡ BLOCK_BYTES * cost new
+as_before inode_attributes body new fits same = sym fits.used ∙ sym (ap (λ k. BLOCK_BYTES * k) same)
 
 -- ---- the file that gets the attributes of a head
 
-own_parent : (head : Head) (body : Body) → IsBodyOf head body → with_parent head.parent body ≡ body
-own_parent head (model.Regular bytes mapped) fits = refl
-own_parent head (model.Directory named span parent) fits =
+own_parent : (inode_attributes : InodeAttributes) (body : Body) → IsBodyOf inode_attributes body → with_parent inode_attributes.parent body ≡ body
+own_parent inode_attributes (model.Regular bytes mapped) fits = refl
+own_parent inode_attributes (model.Directory named span parent) fits =
     ap (λ p. model.Directory named span p) (sym fits.parent)
-own_parent head (model.Link target) fits = refl
+own_parent inode_attributes (model.Link target) fits = refl
 
-module _ (g : Geometry) (image : Image) (tree : Tree) (head : Head) (node : Node) (holds : Holds g image tree)
-    (was : node_at tree head.number ≡ Some node) (fits : IsBodyOf head node.body) where
+module _ (g : Geometry) (image : Image) (tree : Tree) (inode_attributes : InodeAttributes) (node : Node) (holds : Holds g image tree)
+    (was : node_at tree inode_attributes.number ≡ Some node) (fits : IsBodyOf inode_attributes node.body) where
   abbrev pub inode : Inode
-  inode = (found g image tree head.number node holds was).inode
+  inode = (found g image tree inode_attributes.number node holds was).inode
 
-  pub same_body : body_in g image (attributed inode (looks_of head)) ≡ node.body
-  same_body = same_in g.inodes (content_in g image) inode (looks_of head) inode.kind
-      ∙ ap (with_parent head.parent) (sym (found g image tree head.number node holds was).body)
-      ∙ own_parent head node.body fits
+  pub same_body : body_in g image (attributed inode (looks_of inode_attributes)) ≡ node.body
+  same_body = same_in g.inodes (content_in g image) inode (looks_of inode_attributes) inode.kind
+      ∙ ap (with_parent inode_attributes.parent) (sym (found g image tree inode_attributes.number node holds was).body)
+      ∙ own_parent inode_attributes node.body fits
 
-  pub sound : SoundHead tree.geometry.inodes head → SoundInode g (attributed inode (looks_of head))
-  sound good = set_sound g image tree head node holds was
-      (subst (IsBodyOf head) (sym (own_parent head node.body fits)) fits) good
+  pub sound : SoundInodeAttributes tree.geometry.inodes inode_attributes → SoundInode g (attributed inode (looks_of inode_attributes))
+  sound good = set_sound g image tree inode_attributes node holds was
+      (subst (IsBodyOf inode_attributes) (sym (own_parent inode_attributes node.body fits)) fits) good

@@ -2,12 +2,12 @@
 use Rattle.std.specs.Prelude.{◌≡◌}
 use Rattle.std.proofs.Common.{subst, sym}
 use Rattle.inode.specs.declared.snap.Snap.{Snap}
-use Rattle.inode.specs.declared.stop.Stop.{Stop}
-use Rattle.inode.specs.declared.stop.Stop.TheVariants as stop
-use Rattle.inode.specs.Over.{IsPause, MayStop}
+use Rattle.inode.specs.declared.suspend.Suspend.{Suspend}
+use Rattle.inode.specs.declared.suspend.Suspend.TheVariants as suspend
+use Rattle.inode.specs.Over.{IsResumable, MaySuspend}
 
-pub may_lack_memory : (snap : Snap) (why : Stop) → why ≡ stop.NoMemory → MayStop snap why
-may_lack_memory snap why is = subst (MayStop snap) (sym is) tt
+pub may_lack_memory : (snap : Snap) (why : Suspend) → why ≡ suspend.NoMemory → MaySuspend snap why
+may_lack_memory snap why is = subst (MaySuspend snap) (sym is) tt
 
-pub memory_is_no_fault : (why : Stop) → why ≡ stop.NoMemory → IsPause why
-memory_is_no_fault why is = subst IsPause (sym is) tt
+pub memory_is_no_fault : (why : Suspend) → why ≡ suspend.NoMemory → IsResumable why
+memory_is_no_fault why is = subst IsResumable (sym is) tt

@@ -8,22 +8,22 @@ ghost use Rattle.layout.specs.declared.inode.InodeKind.TheVariants as kinds;
 ghost use Rattle.layout.specs.Decode.{entries_in};
 ghost use Rattle.layout.specs.Parts.{content_in};
 ghost use Rattle.nfs_spec.specs.Model.Tree.{Tree};
-ghost use Rattle.nfs_spec.specs.Procedures.Places.{entry_at, least_free_slot};
+ghost use Rattle.nfs_spec.specs.Procedures.Places.{dirent_at, least_free_slot};
 ghost use Rattle.nfs_spec.specs.Procedures.Read.{bytes_of, piece};
 ghost use Rattle.nfs_spec.specs.Procedures.ReadLink.{target_of};
 ghost use Rattle.nfs_spec.specs.Procedures.RmDir.{has_names};
-ghost use Rattle.procs_files.specs.Heads.{IsNextName, entry_of};
-ghost use Rattle.inode.specs.Over.{HasInode, IsPause, MayStop};
+ghost use Rattle.procs_files.specs.Heads.{IsNextName, dirent_of};
+ghost use Rattle.inode.specs.Over.{HasInode, IsResumable, MaySuspend};
 ghost use Rattle.inode.specs.Shown.{body_in};
 ghost use Rattle.dir.specs.Slots.{IsDirectoryOf};
 ghost use Rattle.dir.specs.Search.Known.{AreKnown};
 
 use base::TRANSFER_BYTES;
 use dir::{Names, find, free_slot, is_empty, next_name};
-use inode::{Snap, Stop, piece, target};
+use inode::{Snap, Suspend, piece, target};
 use layout::{Inode, InodeKind};
 use nfs_types::Pieces;
-use procs_files::{Entry, SlotName};
+use procs_files::{SlotDirent, SlotName};
 use std::alloc::Global;
 
 // What a name leads to in the directory of a number: by what is known of these names, if there are any.
@@ -33,37 +33,37 @@ fn found_in(
     number: u32,
     inode: &Inode,
     name: &[u8],
-) -> Result<Option<Entry>, Stop>
+) -> Result<Option<SlotDirent>, Suspend>
     requires { AreKnown snap.now names }
     ensures ok { IfOk result (λ found. (blocks : Image) (tree : Tree)
         → IsDirectoryOf snap.now blocks tree number inode.now
-        → option_map entry_of found
+        → option_map dirent_of found
         ≡ get (entries_in snap.now.geometry.inodes (content_in snap.now.geometry blocks) inode.now) name.now) }
-    ensures err { IfErr result (λ stop. MayStop snap.now stop) }
-    ensures pause { IfErr result (λ stop. (blocks : Image) (tree : Tree) (file : ℕ)
-        → IsDirectoryOf snap.now blocks tree file inode.now → IsPause stop) }
+    ensures err { IfErr result (λ suspend. MaySuspend snap.now suspend) }
+    ensures resumable { IfErr result (λ suspend. (blocks : Image) (tree : Tree) (file : ℕ)
+        → IsDirectoryOf snap.now blocks tree file inode.now → IsResumable suspend) }
 {
     match names {
-        Some(names) => names.entry(snap, number, inode, name),
+        Some(names) => names.dirent(snap, number, inode, name),
         None => find(snap, inode, name),
     }
 }
 
 /// What a name leads to in the file of a number: to nothing, but in a directory.
-pub(crate) fn entry_under(
+pub(crate) fn dirent_under(
     snap: &Snap,
     names: Option<&Names>,
     number: u32,
     inode: &Inode,
     name: &[u8],
-) -> Result<Option<Entry>, Stop>
+) -> Result<Option<SlotDirent>, Suspend>
     requires { AreKnown snap.now names }
     ensures ok { IfOk result (λ found. (blocks : Image) (tree : Tree)
         → HasInode snap.now blocks tree number inode.now
-        → option_map entry_of found ≡ entry_at (body_in snap.now.geometry blocks inode.now) name.now) }
-    ensures err { IfErr result (λ stop. MayStop snap.now stop) }
-    ensures pause { IfErr result (λ stop. (blocks : Image) (tree : Tree) (file : ℕ)
-        → HasInode snap.now blocks tree file inode.now → IsPause stop) }
+        → option_map dirent_of found ≡ dirent_at (body_in snap.now.geometry blocks inode.now) name.now) }
+    ensures err { IfErr result (λ suspend. MaySuspend snap.now suspend) }
+    ensures resumable { IfErr result (λ suspend. (blocks : Image) (tree : Tree) (file : ℕ)
+        → HasInode snap.now blocks tree file inode.now → IsResumable suspend) }
 {
     match inode.kind {
         InodeKind::Directory => found_in(snap, names, number, inode, name),
@@ -78,14 +78,14 @@ pub(crate) fn name_from(
     snap: &Snap,
     inode: &Inode,
     from: u64,
-) -> Result<Option<SlotName>, Stop>
+) -> Result<Option<SlotName>, Suspend>
     ensures ok { IfOk result (λ found. (blocks : Image) (tree : Tree) (file : ℕ)
         → HasInode snap.now blocks tree file inode.now
         → IsNextName (body_in snap.now.geometry blocks inode.now) from found) }
     ensures past { IfOk result (λ found. IfSome found (λ name. from ≤ name.slot)) }
-    ensures err { IfErr result (λ stop. MayStop snap.now stop) }
-    ensures pause { IfErr result (λ stop. (blocks : Image) (tree : Tree) (file : ℕ)
-        → HasInode snap.now blocks tree file inode.now → IsPause stop) }
+    ensures err { IfErr result (λ suspend. MaySuspend snap.now suspend) }
+    ensures resumable { IfErr result (λ suspend. (blocks : Image) (tree : Tree) (file : ℕ)
+        → HasInode snap.now blocks tree file inode.now → IsResumable suspend) }
 {
     match inode.kind {
         InodeKind::Directory => next_name(alloc, snap, inode, from),
@@ -95,13 +95,13 @@ pub(crate) fn name_from(
 }
 
 /// Whether no name lies in it.
-pub(crate) fn has_no_names(alloc: Global, snap: &Snap, inode: &Inode) -> Result<bool, Stop>
+pub(crate) fn has_no_names(alloc: Global, snap: &Snap, inode: &Inode) -> Result<bool, Suspend>
     ensures ok { IfOk result (λ empty. (blocks : Image) (tree : Tree) (file : ℕ)
         → HasInode snap.now blocks tree file inode.now
         → empty ≡ not (has_names (body_in snap.now.geometry blocks inode.now))) }
-    ensures err { IfErr result (λ stop. MayStop snap.now stop) }
-    ensures pause { IfErr result (λ stop. (blocks : Image) (tree : Tree) (file : ℕ)
-        → HasInode snap.now blocks tree file inode.now → IsPause stop) }
+    ensures err { IfErr result (λ suspend. MaySuspend snap.now suspend) }
+    ensures resumable { IfErr result (λ suspend. (blocks : Image) (tree : Tree) (file : ℕ)
+        → HasInode snap.now blocks tree file inode.now → IsResumable suspend) }
 {
     match inode.kind {
         InodeKind::Directory => is_empty(alloc, snap, inode),
@@ -111,13 +111,13 @@ pub(crate) fn has_no_names(alloc: Global, snap: &Snap, inode: &Inode) -> Result<
 }
 
 /// The least slot in which no name lies: the first one, but of a directory.
-pub(crate) fn first_free_slot(snap: &Snap, inode: &Inode) -> Result<Option<u32>, Stop>
+pub(crate) fn first_free_slot(snap: &Snap, inode: &Inode) -> Result<Option<u32>, Suspend>
     ensures ok { IfOk result (λ free. (blocks : Image) (tree : Tree) (file : ℕ)
         → HasInode snap.now blocks tree file inode.now
         → free ≡ least_free_slot (body_in snap.now.geometry blocks inode.now)) }
-    ensures err { IfErr result (λ stop. MayStop snap.now stop) }
-    ensures pause { IfErr result (λ stop. (blocks : Image) (tree : Tree) (file : ℕ)
-        → HasInode snap.now blocks tree file inode.now → IsPause stop) }
+    ensures err { IfErr result (λ suspend. MaySuspend snap.now suspend) }
+    ensures resumable { IfErr result (λ suspend. (blocks : Image) (tree : Tree) (file : ℕ)
+        → HasInode snap.now blocks tree file inode.now → IsResumable suspend) }
 {
     match inode.kind {
         InodeKind::Directory => free_slot(snap, inode),
@@ -133,13 +133,13 @@ pub(crate) fn bytes_from(
     inode: &Inode,
     offset: u64,
     count: u32,
-) -> Result<Pieces, Stop>
+) -> Result<Pieces, Suspend>
     ensures ok { IfOk result (λ bytes. (blocks : Image) (tree : Tree) (file : ℕ)
         → HasInode snap.now blocks tree file inode.now
         → bytes ≡ piece offset count (bytes_of (body_in snap.now.geometry blocks inode.now))) }
-    ensures err { IfErr result (λ stop. MayStop snap.now stop) }
-    ensures pause { IfErr result (λ stop. (blocks : Image) (tree : Tree) (file : ℕ)
-        → HasInode snap.now blocks tree file inode.now → IsPause stop) }
+    ensures err { IfErr result (λ suspend. MaySuspend snap.now suspend) }
+    ensures resumable { IfErr result (λ suspend. (blocks : Image) (tree : Tree) (file : ℕ)
+        → HasInode snap.now blocks tree file inode.now → IsResumable suspend) }
 {
     match inode.kind {
         InodeKind::Regular => piece(alloc, snap, inode, offset, at_most(count)),
@@ -160,13 +160,13 @@ fn at_most(count: u32) -> u32
 }
 
 /// The target: nothing, but of a link.
-pub(crate) fn target_in(alloc: Global, snap: &Snap, inode: &Inode) -> Result<Vec<u8>, Stop>
+pub(crate) fn target_in(alloc: Global, snap: &Snap, inode: &Inode) -> Result<Vec<u8>, Suspend>
     ensures ok { IfOk result (λ bytes. (blocks : Image) (tree : Tree) (file : ℕ)
         → HasInode snap.now blocks tree file inode.now → inode.now.kind ≡ kinds.Link
         → target_of (body_in snap.now.geometry blocks inode.now) ≡ Ok bytes.items) }
-    ensures err { IfErr result (λ stop. MayStop snap.now stop) }
-    ensures pause { IfErr result (λ stop. (blocks : Image) (tree : Tree) (file : ℕ)
-        → HasInode snap.now blocks tree file inode.now → IsPause stop) }
+    ensures err { IfErr result (λ suspend. MaySuspend snap.now suspend) }
+    ensures resumable { IfErr result (λ suspend. (blocks : Image) (tree : Tree) (file : ℕ)
+        → HasInode snap.now blocks tree file inode.now → IsResumable suspend) }
 {
     match inode.kind {
         InodeKind::Link => target(alloc, snap, inode),

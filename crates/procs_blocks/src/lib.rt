@@ -1,31 +1,31 @@
 //! The files on the blocks of an image, as far as these were read.
 #![tactic(auto)]
 
-mod adding;
-mod asking;
-mod changing;
+mod added_blocks;
+mod attributes;
+mod block_files;
 mod contents;
-mod departing;
-mod drafted;
-mod entering;
 mod heads;
-mod making;
-mod naming;
-mod refreshing;
-mod setting;
-mod sizing;
+mod inode_refresh;
+mod insertion;
+mod name_slots;
+mod new_file;
+mod removal;
+mod size_changes;
 mod space;
-mod writing;
+mod update_files;
+mod write_set_files;
+mod writes;
 
-pub use adding::unmapped;
-pub use asking::BlockFiles;
+pub use added_blocks::unmapped;
+pub use attributes::set;
 pub use bitmap::remove;
-pub use departing::depart;
-pub use drafted::DraftFiles;
-pub use entering::enter;
-pub use heads::head_of;
-pub use making::{make, new_number};
-pub use refreshing::refresh;
-pub use setting::set;
-pub use sizing::resize;
-pub use writing::write;
+pub use block_files::BlockFiles;
+pub use heads::inode_attributes_of;
+pub use inode_refresh::refresh;
+pub use insertion::enter;
+pub use new_file::{make, new_number};
+pub use removal::depart;
+pub use size_changes::resize;
+pub use write_set_files::WriteSetFiles;
+pub use writes::write;

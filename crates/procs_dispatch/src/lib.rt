@@ -2,8 +2,8 @@
 //! server that `nfs_spec` defines, whatever tree the files are.
 #![tactic(auto)]
 
-mod changing;
-mod telling;
+mod query_dispatch;
+mod update_dispatch;
 
-pub use changing::change;
-pub use telling::tell;
+pub use query_dispatch::tell;
+pub use update_dispatch::change;

@@ -7,14 +7,14 @@ use Rattle.std.proofs.lemmas.Bool.Decides.{eqb_tells}
 use Rattle.nfs_types.specs.Handle.{handle_bytes}
 use Rattle.nfs_types.specs.declared.handle.Stamp.{Stamp}
 use Rattle.nfs_types.specs.declared.status.Status.TheVariants as status
-use Rattle.nfs_spec.specs.Model.Node.{Node, DirectoryEntry}
+use Rattle.nfs_spec.specs.Model.Node.{Node, DirentValue}
 use Rattle.nfs_spec.specs.Model.Find.{find_file, stamped, same_stamp}
 use Rattle.nfs_spec.specs.Model.Tree.{Tree, node_at}
 use Rattle.nfs_spec.proofs.ModelLemmas.Handled.{handled, stamped_ok}
-use Rattle.nfs_spec.specs.Procedures.Places.{entry_at, file_at, named_file}
-use Rattle.procs_files.specs.declared.entry.Entry.{Entry}
-use Rattle.procs_files.specs.declared.head.Head.{Head}
-use Rattle.procs_files.specs.Heads.{IsFileAt, IsFound, IsNamed, entry_of, node_of}
+use Rattle.nfs_spec.specs.Procedures.Places.{dirent_at, file_at, named_file}
+use Rattle.procs_files.specs.declared.dirent.SlotDirent.{SlotDirent}
+use Rattle.procs_files.specs.declared.inode_attributes.InodeAttributes.{InodeAttributes}
+use Rattle.procs_files.specs.Heads.{IsFileAt, IsFound, IsNamed, dirent_of, node_of}
 
 module _ (tree : Tree) (number : ℕ) (stamp : Stamp) (handle : List ℕ)
     (is : handle ≡ handle_bytes number stamp)
@@ -39,26 +39,26 @@ module _ (tree : Tree) (number : ℕ) (stamp : Stamp) (handle : List ℕ)
       and_none true = refl
       and_none false = refl
 
-  module _ (head : Head) (at : IsFileAt tree number (Some head)) where
+  module _ (inode_attributes : InodeAttributes) (at : IsFileAt tree number (Some inode_attributes)) where
     node : Node
-    node = node_of head at.1.0
+    node = node_of inode_attributes at.1.0
 
-    found_node : find_file tree handle ≡ stamped number stamp (Some (node_of head at.1.0))
+    found_node : find_file tree handle ≡ stamped number stamp (Some (node_of inode_attributes at.1.0))
     found_node = found_is
         ∙ ap (stamped number stamp) (sym (ap (node_at tree) at.0) ∙ at.1.1.there)
 
-    pub stale_stamp : (head.stamp ≡ stamp → ⊥) → IsNamed tree (find_file tree handle) (Err status.Stale)
+    pub stale_stamp : (inode_attributes.stamp ≡ stamp → ⊥) → IsNamed tree (find_file tree handle) (Err status.Stale)
     stale_stamp differs = found_node
-        ∙ ap (λ b. cond b (Ok (number, node_of head at.1.0)) (Err status.Stale))
-        (other_stamp stamp head.stamp differs)
+        ∙ ap (λ b. cond b (Ok (number, node_of inode_attributes at.1.0)) (Err status.Stale))
+        (other_stamp stamp inode_attributes.stamp differs)
 
-    pub found : head.stamp ≡ stamp → IsNamed tree (find_file tree handle) (Ok head)
+    pub found : inode_attributes.stamp ≡ stamp → IsNamed tree (find_file tree handle) (Ok inode_attributes)
     found e = (
       at.1.0,
       found_node
-          ∙ stamped_ok number stamp (node_of head at.1.0) (ap (λ (s : Stamp). s.boot) (sym e))
+          ∙ stamped_ok number stamp (node_of inode_attributes at.1.0) (ap (λ (s : Stamp). s.boot) (sym e))
           (ap (λ (s : Stamp). s.transaction) (sym e))
-          ∙ ap (λ n. Ok (n, node_of head at.1.0)) (sym at.0),
+          ∙ ap (λ n. Ok (n, node_of inode_attributes at.1.0)) (sym at.0),
       at.1.1,
     )
 
@@ -93,25 +93,25 @@ stamps_differ a b e is =
 
 -- ---- what a number and a name lead to
 
-pub found_at : (tree : Tree) (number : ℕ) (found : Option Head) → IsFileAt tree number found
+pub found_at : (tree : Tree) (number : ℕ) (found : Option InodeAttributes) → IsFileAt tree number found
     → IsFound tree (file_at tree number) found
 found_at tree number None none = ap (option_map (λ node. (number, node))) none
-found_at tree number (Some head) at = (
+found_at tree number (Some inode_attributes) at = (
   at.1.0,
   ap (option_map (λ node. (number, node))) (sym (ap (node_at tree) at.0) ∙ at.1.1.there)
-      ∙ ap (λ n. Some (n, node_of head at.1.0)) (sym at.0),
+      ∙ ap (λ n. Some (n, node_of inode_attributes at.1.0)) (sym at.0),
   at.1.1,
 )
 
-pub named_none : (tree : Tree) (directory : Node) (name : List ℕ) → None ≡ entry_at directory.body name
+pub named_none : (tree : Tree) (directory : Node) (name : List ℕ) → None ≡ dirent_at directory.body name
     → IsFound tree (named_file tree directory name) None
 named_none tree directory name none =
-    ap (option_and_then (λ (entry : DirectoryEntry). file_at tree entry.number)) (sym none)
+    ap (option_and_then (λ (dirent : DirentValue). file_at tree dirent.number)) (sym none)
 
-pub named_some : (tree : Tree) (directory : Node) (name : List ℕ) (entry : Entry) (found : Option Head)
-    → Some (entry_of entry) ≡ entry_at directory.body name → IsFileAt tree entry.number found
+pub named_some : (tree : Tree) (directory : Node) (name : List ℕ) (dirent : SlotDirent) (found : Option InodeAttributes)
+    → Some (dirent_of dirent) ≡ dirent_at directory.body name → IsFileAt tree dirent.number found
     → IsFound tree (named_file tree directory name) found
-named_some tree directory name entry found is at =
+named_some tree directory name dirent found is at =
     subst (λ file. IsFound tree file found)
-    (ap (option_and_then (λ (e : DirectoryEntry). file_at tree e.number)) is)
-    (found_at tree entry.number found at)
+    (ap (option_and_then (λ (e : DirentValue). file_at tree e.number)) is)
+    (found_at tree dirent.number found at)

@@ -8,12 +8,12 @@ ghost use Rattle.nfs_spec.specs.Model.Cost.{cost};
 ghost use Rattle.nfs_spec.specs.Model.Node.{Body};
 ghost use Rattle.nfs_spec.specs.Model.Tree.{Tree, free};
 ghost use Rattle.nfs_spec.specs.Procedures.FsStat.{unused_numbers};
-ghost use Rattle.nfs_spec.specs.Procedures.Places.{entry_at};
+ghost use Rattle.nfs_spec.specs.Procedures.Places.{dirent_at};
 ghost use Rattle.nfs_spec.specs.Procedures.Read.{bytes_of, piece};
 ghost use Rattle.nfs_spec.specs.Procedures.ReadLink.{target_of};
-ghost use Rattle.procs_files.specs.Heads.{IsFileAt, IsFileIn, IsNextName, entry_of};
+ghost use Rattle.procs_files.specs.Heads.{IsFileAt, IsFileIn, IsNextName, dirent_of};
 
-use crate::{Entry, Head, SlotName};
+use crate::{InodeAttributes, SlotDirent, SlotName};
 use nfs_types::{Octets, Pieces};
 use std::alloc::{AllocError, Global};
 
@@ -24,7 +24,7 @@ pub trait Files: Drop {
     ghost use Rattle.nfs_spec.specs.Model.Tree.{Tree};
 
     /// Why an operation stops.
-    type Stop: From<AllocError> + Drop;
+    type Suspend: From<AllocError> + Drop;
 
     // What lies behind them.
     ghost World: { Type 0 };
@@ -35,10 +35,10 @@ pub trait Files: Drop {
     ghost source: { Self → Source };
 
     // An operation may stop so.
-    ghost may_stop: { Source → Self.Stop → Type 0 };
+    ghost may_suspend: { Source → Self.Suspend → Type 0 };
 
     // It stops for no fault of what it reads.
-    ghost is_pause: { Self.Stop → Type 0 };
+    ghost is_resumable: { Self.Suspend → Type 0 };
 
     // What is known of a number once its file was read, or that it has none.
     ghost was_read: { Source → ℕ → Type 0 };
@@ -56,32 +56,36 @@ pub trait Files: Drop {
             → result ≡ tree.geometry.data_blocks };
 
     /// The file of a number.
-    fn file(&self, number: u32) -> Result<Option<Head>, Self::Stop>
-        ensures err { IfErr result (λ stop. may_stop (source self.now) stop) }
-        ensures pause { IfErr result (λ stop. (world : World) (tree : Tree) → stands self.now world tree
-            → is_pause stop) }
+    fn file(&self, number: u32) -> Result<Option<InodeAttributes>, Self::Suspend>
+        ensures err { IfErr result (λ suspend. may_suspend (source self.now) suspend) }
+        ensures resumable { IfErr result (λ suspend. (world : World) (tree : Tree) → stands self.now world tree
+            → is_resumable suspend) }
         ensures read { IfOk result (λ found. was_read (source self.now) number) }
         ensures ok { IfOk result (λ found. (world : World) (tree : Tree) → stands self.now world tree
             → IsFileAt tree number found) };
 
     /// What a name in a directory leads to.
-    fn entry(&self, directory: &Head, name: &[u8]) -> Result<Option<Entry>, Self::Stop>
-        ensures err { IfErr result (λ stop. may_stop (source self.now) stop) }
-        ensures pause { IfErr result (λ stop. (world : World) (tree : Tree) → stands self.now world tree
-            → is_pause stop) }
+    fn dirent(
+        &self,
+        directory: &InodeAttributes,
+        name: &[u8],
+    ) -> Result<Option<SlotDirent>, Self::Suspend>
+        ensures err { IfErr result (λ suspend. may_suspend (source self.now) suspend) }
+        ensures resumable { IfErr result (λ suspend. (world : World) (tree : Tree) → stands self.now world tree
+            → is_resumable suspend) }
         ensures ok { IfOk result (λ found. (world : World) (tree : Tree) (body : Body) → stands self.now world tree
-            → IsFileIn tree directory.now body → option_map entry_of found ≡ entry_at body name.now) };
+            → IsFileIn tree directory.now body → option_map dirent_of found ≡ dirent_at body name.now) };
 
     /// The first name of a directory in this slot or past it.
     fn next_name(
         &self,
         alloc: Global,
-        directory: &Head,
+        directory: &InodeAttributes,
         from: u64,
-    ) -> Result<Option<SlotName>, Self::Stop>
-        ensures err { IfErr result (λ stop. may_stop (source self.now) stop) }
-        ensures pause { IfErr result (λ stop. (world : World) (tree : Tree) → stands self.now world tree
-            → is_pause stop) }
+    ) -> Result<Option<SlotName>, Self::Suspend>
+        ensures err { IfErr result (λ suspend. may_suspend (source self.now) suspend) }
+        ensures resumable { IfErr result (λ suspend. (world : World) (tree : Tree) → stands self.now world tree
+            → is_resumable suspend) }
         ensures past { IfOk result (λ found. IfSome found (λ name. from ≤ name.slot)) }
         ensures small { IfOk result (λ found. IfSome found (λ name. name.slot < 2 ^ 32)) }
         ensures ok { IfOk result (λ found. (world : World) (tree : Tree) (body : Body) → stands self.now world tree
@@ -91,52 +95,52 @@ pub trait Files: Drop {
     fn bytes(
         &self,
         alloc: Global,
-        file: &Head,
+        file: &InodeAttributes,
         offset: u64,
         count: u32,
-    ) -> Result<Pieces, Self::Stop>
-        ensures err { IfErr result (λ stop. may_stop (source self.now) stop) }
-        ensures pause { IfErr result (λ stop. (world : World) (tree : Tree) → stands self.now world tree
-            → is_pause stop) }
+    ) -> Result<Pieces, Self::Suspend>
+        ensures err { IfErr result (λ suspend. may_suspend (source self.now) suspend) }
+        ensures resumable { IfErr result (λ suspend. (world : World) (tree : Tree) → stands self.now world tree
+            → is_resumable suspend) }
         ensures ok { IfOk result (λ bytes. (world : World) (tree : Tree) (body : Body) → stands self.now world tree
             → IsFileIn tree file.now body → bytes ≡ piece offset count (bytes_of body)) };
 
     /// The target of a link.
-    fn target(&self, alloc: Global, link: &Head) -> Result<Octets, Self::Stop>
-        ensures err { IfErr result (λ stop. may_stop (source self.now) stop) }
-        ensures pause { IfErr result (λ stop. (world : World) (tree : Tree) → stands self.now world tree
-            → is_pause stop) }
+    fn target(&self, alloc: Global, link: &InodeAttributes) -> Result<Octets, Self::Suspend>
+        ensures err { IfErr result (λ suspend. may_suspend (source self.now) suspend) }
+        ensures resumable { IfErr result (λ suspend. (world : World) (tree : Tree) → stands self.now world tree
+            → is_resumable suspend) }
         ensures ok { IfOk result (λ target. (world : World) (tree : Tree) (body : Body) → stands self.now world tree
             → IsFileIn tree link.now body → link.now.kind ≡ kinds.Link → target_of body ≡ Ok target) };
 
     /// Whether so many data blocks are free.
-    fn has_room(&self, blocks: u32) -> Result<bool, Self::Stop>
-        ensures err { IfErr result (λ stop. may_stop (source self.now) stop) }
-        ensures pause { IfErr result (λ stop. (world : World) (tree : Tree) → stands self.now world tree
-            → is_pause stop) }
+    fn has_free_blocks(&self, blocks: u32) -> Result<bool, Self::Suspend>
+        ensures err { IfErr result (λ suspend. may_suspend (source self.now) suspend) }
+        ensures resumable { IfErr result (λ suspend. (world : World) (tree : Tree) → stands self.now world tree
+            → is_resumable suspend) }
         ensures ok { IfOk result (λ has. (world : World) (tree : Tree) → stands self.now world tree
             → has ≡ nat_le blocks (free tree)) };
 
     /// The data blocks that no file uses.
-    fn free_blocks(&self) -> Result<u32, Self::Stop>
-        ensures err { IfErr result (λ stop. may_stop (source self.now) stop) }
-        ensures pause { IfErr result (λ stop. (world : World) (tree : Tree) → stands self.now world tree
-            → is_pause stop) }
+    fn free_blocks(&self) -> Result<u32, Self::Suspend>
+        ensures err { IfErr result (λ suspend. may_suspend (source self.now) suspend) }
+        ensures resumable { IfErr result (λ suspend. (world : World) (tree : Tree) → stands self.now world tree
+            → is_resumable suspend) }
         ensures ok { IfOk result (λ blocks. (world : World) (tree : Tree) → stands self.now world tree
             → blocks ≡ free tree) };
 
     /// How many numbers no file has.
-    fn free_numbers(&self) -> Result<u32, Self::Stop>
-        ensures err { IfErr result (λ stop. may_stop (source self.now) stop) }
-        ensures pause { IfErr result (λ stop. (world : World) (tree : Tree) → stands self.now world tree
-            → is_pause stop) }
+    fn free_numbers(&self) -> Result<u32, Self::Suspend>
+        ensures err { IfErr result (λ suspend. may_suspend (source self.now) suspend) }
+        ensures resumable { IfErr result (λ suspend. (world : World) (tree : Tree) → stands self.now world tree
+            → is_resumable suspend) }
         ensures ok { IfOk result (λ numbers. (world : World) (tree : Tree) → stands self.now world tree
             → numbers ≡ unused_numbers tree) };
 
     // It may lack memory.
-    ghost may_lack_memory: { (source : Source) (error : AllocError) (stop : Self.Stop)
-        → Self.Stop.from_gives error stop → may_stop source stop };
+    ghost may_lack_memory: { (source : Source) (error : AllocError) (suspend : Self.Suspend)
+        → Self.Suspend.from_gives error suspend → may_suspend source suspend };
 
-    ghost memory_is_no_fault: { (error : AllocError) (stop : Self.Stop)
-        → Self.Stop.from_gives error stop → is_pause stop };
+    ghost memory_is_no_fault: { (error : AllocError) (suspend : Self.Suspend)
+        → Self.Suspend.from_gives error suspend → is_resumable suspend };
 }

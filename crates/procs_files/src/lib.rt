@@ -2,25 +2,25 @@
 //! they lie in.
 #![tactic(auto)]
 
-mod changing;
-mod entry;
+mod call_replies;
+mod dirent;
 mod files;
 mod found;
-mod head;
-mod names;
+mod inode_attributes;
+mod name_resolution;
 mod rights;
 mod tests;
-mod told;
+mod writable_files;
 
-pub use changing::ChangingFiles;
-pub use entry::{Entry, SlotName};
+pub use call_replies::{Changed, QueryReply, untold};
+pub use dirent::{SlotDirent, SlotName};
 pub use files::Files;
 pub use found::find;
-pub use head::Head;
-pub use names::{is_dots, is_no_name, is_own_name, named_file};
+pub use inode_attributes::InodeAttributes;
+pub use name_resolution::{is_dots, is_no_name, is_own_name, named_file};
 pub use rights::{
     acts_as_owner, class_of, has_right, is_own_group, is_superuser, may_change, may_list,
     may_search, may_write_file,
 };
-pub use tests::{first_of, place_refusal};
-pub use told::{Changed, Told, untold};
+pub use tests::{dentry_refusal, first_of};
+pub use writable_files::WritableFiles;

@@ -1,16 +1,16 @@
 //! The tests that come first.
 ghost use Rattle.std.specs.Prelude.{◌≡◌};
 ghost use Rattle.nfs_spec.specs.Model.SetAttr.{first_of_tests};
-ghost use Rattle.nfs_spec.specs.Procedures.FirstTests.{place_tests};
+ghost use Rattle.nfs_spec.specs.Procedures.FirstTests.{dentry_tests};
 ghost use Rattle.procs_files.specs.Heads.{bare, first_of};
 
-use crate::{Head, is_no_name};
+use crate::{InodeAttributes, is_no_name};
 use base::NAME_BYTES;
 use nfs_types::{FileKind, Status};
 
 /// Why a name in a directory is refused, where this is whether the caller may do what is asked.
-pub fn place_refusal(allowed: bool, directory: &Head, name: &[u8]) -> Option<Status>
-    ensures { result ≡ first_of_tests (place_tests allowed (bare directory.now) name.now) }
+pub fn dentry_refusal(allowed: bool, directory: &InodeAttributes, name: &[u8]) -> Option<Status>
+    ensures { result ≡ first_of_tests (dentry_tests allowed (bare directory.now) name.now) }
 {
     if !matches!(directory.kind, FileKind::Directory) {
         Some(Status::NotDir)

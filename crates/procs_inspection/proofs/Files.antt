@@ -11,32 +11,32 @@ use Rattle.layout.specs.Decode.{inode_at}
 use Rattle.layout.specs.SlotForm.{read_slot}
 use Rattle.inode.specs.declared.snap.Snap.{Snap}
 use Rattle.dir.specs.Slots.{HasBlockAt, block_slot}
-use Rattle.dir.specs.Slots.HasBlockAt.{near as has_near, far as has_far}
-use Rattle.dir.specs.Sought.{IsClearAt}
-use Rattle.procs_inspection.specs.Refused.{HasRefusedBlock, IsRefusedAt, IsRefusedFile, Names, WasReadBlock, far, near}
-use Rattle.procs_inspection.specs.Refused.{far_numbers, refused_block, refused_inode}
+use Rattle.dir.specs.Slots.HasBlockAt.{direct_part as has_direct, indirect_part as has_indirect}
+use Rattle.dir.specs.SearchCursor.{IsValidAt}
+use Rattle.procs_inspection.specs.Refused.{HasRefusedBlock, IsRefusedAt, IsRefusedFile, Names, WasReadBlock, indirect_part, direct_part}
+use Rattle.procs_inspection.specs.Refused.{indirect_row, refused_block, refused_inode}
 
 module _ (snap : Snap) (blocks : Image) (inode : Inode) (index : ℕ) where
   -- below the first number of an indirect block, and from it on
-  pub named_near : (number : ℕ) → index < DIRECT_INDEXES → Names snap blocks inode index number
+  pub named_direct : (number : ℕ) → index < DIRECT_INDEXES → Names snap blocks inode index number
       → number ≡ get_or inode.direct index 0
-  named_near number less (near low is) = is
-  named_near number less (far more within read is) = absurd (omega (arith, less, more))
+  named_direct number less (direct_part low is) = is
+  named_direct number less (indirect_part more within read is) = absurd (omega (arith, less, more))
 
-  pub named_far : (number : ℕ) → DIRECT_INDEXES ≤ index → Names snap blocks inode index number
-      → number ≡ get_or (far_numbers blocks inode) (index - DIRECT_INDEXES) 0
-  named_far number more (near less is) = absurd (omega (arith, less, more))
-  named_far number more (far past within read is) = is
+  pub named_indirect : (number : ℕ) → DIRECT_INDEXES ≤ index → Names snap blocks inode index number
+      → number ≡ get_or (indirect_row blocks inode) (index - DIRECT_INDEXES) 0
+  named_indirect number more (direct_part less is) = absurd (omega (arith, less, more))
+  named_indirect number more (indirect_part past within read is) = is
 
-  pub far_read : (number : ℕ) → DIRECT_INDEXES ≤ index → Names snap blocks inode index number
+  pub indirect_read : (number : ℕ) → DIRECT_INDEXES ≤ index → Names snap blocks inode index number
       → WasReadBlock snap blocks inode.indirect
-  far_read number more (near less is) = absurd (omega (arith, less, more))
-  far_read number more (far past within read is) = read
+  indirect_read number more (direct_part less is) = absurd (omega (arith, less, more))
+  indirect_read number more (indirect_part past within read is) = read
 
   -- no directory has a block past its greatest span
   pub named_within : (number : ℕ) → Names snap blocks inode index number → index < MOST_SPAN
-  named_within number (near less is) = omega (arith, less)
-  named_within number (far more within read is) = within
+  named_within number (direct_part less is) = omega (arith, less)
+  named_within number (indirect_part more within read is) = within
 
 abbrev Read : Type 0
 Read = Result (Option Inode) LayoutFault
@@ -76,20 +76,20 @@ same_file snap blocks number other same (refused_block one was block) = refused_
 
 module _ (snap : Snap) (blocks : Image) (inode : Inode) (index : ℕ) where
   has_block : (number : ℕ) → Names snap blocks inode index number → HasBlockAt blocks inode index number
-  has_block number (near less is) = has_near less is
-  has_block number (far past within read is) = has_far past read.whole is
+  has_block number (direct_part less is) = has_direct less is
+  has_block number (indirect_part past within read is) = has_indirect past read.whole is
 
   no_fault : (read : Result (Option Slot) LayoutFault) (fault : LayoutFault) → IsOk read → read ≡ Err fault → ⊥
   no_fault (Ok one) fault ok is = cc
   no_fault (Err other) fault ok is = let clash : false ≡ true = ok in cc
 
-  pub none_refused : IsClearAt snap blocks inode index → IsRefusedAt snap blocks inode index → ⊥
-  none_refused clear at =
+  pub none_refused : IsValidAt snap blocks inode index → IsRefusedAt snap blocks inode index → ⊥
+  none_refused valid_blocks at =
       let less = at.slot.less in
       let first = SLOTS_PER_BLOCK * index in
-      let place : first + at.slot.slot - first ≡ at.slot.slot = omega arith in
+      let offsets_agree : first + at.slot.slot - first ≡ at.slot.slot = omega arith in
       no_fault (block_slot snap.geometry.inodes first (blocks at.number) (first + at.slot.slot)) at.slot.fault
-      (clear at.number (has_block at.number at.named) at.read.whole (first + at.slot.slot) (omega arith)
+      (valid_blocks at.number (has_block at.number at.named) at.read.whole (first + at.slot.slot) (omega arith)
       (omega (arith, less)))
-      (ap (λ k. read_slot snap.geometry.inodes (take SLOT_BYTES (drop (SLOT_BYTES * k) (blocks at.number)))) place
+      (ap (λ k. read_slot snap.geometry.inodes (take SLOT_BYTES (drop (SLOT_BYTES * k) (blocks at.number)))) offsets_agree
       ∙ at.slot.is)

@@ -18,16 +18,16 @@ use Rattle.layout.specs.Places.{is_data}
 use Rattle.layout.specs.SlotForm.{read_slot}
 use Rattle.layout.proofs.OnGrid.{data_within}
 use Rattle.inode.specs.declared.snap.Snap.{Snap}
-use Rattle.inode.specs.Over.{HasInode, are_far_placed, far_at, number_at}
+use Rattle.inode.specs.Over.{HasInode, are_pointers_placed, pointer_number_at, number_at}
 use Rattle.inode.specs.Read.{Saw}
-use Rattle.inode.proofs.HeldThere.{far_placed}
+use Rattle.inode.proofs.HeldThere.{indirect_part_placed}
 use Rattle.inode.proofs.Pieces.{direct}
-use Rattle.inode.proofs.Placed.{direct_at, double_far_placed, far_there, inner_far_placed, inner_placed, some_far}
+use Rattle.inode.proofs.Placed.{direct_at, double_part_placed, indirect_there, inner_part_placed, inner_placed, some_indirect}
 use Rattle.inode.proofs.ReadThere.{no_fault}
 use Rattle.dir.specs.Slots.{IsDirectoryOf, slot_at}
 use Rattle.dir.proofs.SlotBlocks as slots
 use Rattle.procs_inspection.specs.Refused.{HasRefusedBlock, HasRefusedPointer, IsRefused, IsRefusedAt, IsRefusedPointer, Names}
-use Rattle.procs_inspection.specs.Refused.{far, near, refused_block, refused_double, refused_indirect, refused_inner}
+use Rattle.procs_inspection.specs.Refused.{indirect_part, direct_part, refused_block, refused_double, refused_indirect, refused_inner}
 use Rattle.procs_inspection.specs.Refused.{refused_inode, refused_numbers, refused_slots}
 
 differs : (a b : ℕ) → (a ≡ b → ⊥) → nat_eq a b ≡ false
@@ -51,13 +51,13 @@ module _ (snap : Snap) (blocks : Image) (tree : Tree) (number : ℕ) (inode : In
   content = content_in g blocks
 
   named_there : (index named : ℕ) → Names snap blocks inode index named → named ≡ number_at g blocks inode index
-  named_there index named (near less is) =
+  named_there index named (direct_part less is) =
       is ∙ direct_at g blocks inode index (direct snap blocks tree number inode has) less
-  named_there index named (far more within read is) =
+  named_there index named (indirect_part more within read is) =
       is
-      ∙ some_far content inode.indirect (index - DIRECT_INDEXES) (blocks inode.indirect)
+      ∙ some_indirect content inode.indirect (index - DIRECT_INDEXES) (blocks inode.indirect)
       (some_data g inode.indirect read.lies) (content_is g blocks inode.indirect read.lies)
-      ∙ far_there g blocks inode index (direct snap blocks tree number inode has) more
+      ∙ indirect_there g blocks inode index (direct snap blocks tree number inode has) more
       (omega (arith, within))
 
   no_fault_at : {A B : Type 0} (r : Result A B) (fault : B) → r ≡ Err fault → IsOk r → ⊥
@@ -72,16 +72,16 @@ module _ (snap : Snap) (blocks : Image) (tree : Tree) (number : ℕ) (inode : In
       let there = slots.slot_there snap blocks tree number inode is at.number index
       (SLOTS_PER_BLOCK * index + at.slot.slot) (blocks at.number) less (named_there index at.number at.named)
       (content_is g blocks at.number lies) (omega arith) (omega (arith, low)) in
-      let place : SLOTS_PER_BLOCK * index + at.slot.slot - SLOTS_PER_BLOCK * index ≡ at.slot.slot = omega arith in
+      let offsets_agree : SLOTS_PER_BLOCK * index + at.slot.slot - SLOTS_PER_BLOCK * index ≡ at.slot.slot = omega arith in
       no_fault_at (slot_at g.inodes content inode (SLOTS_PER_BLOCK * index + at.slot.slot)) at.slot.fault
       (there
-      ∙ ap (λ k. read_slot g.inodes (take SLOT_BYTES (drop (SLOT_BYTES * k) (blocks at.number)))) place
+      ∙ ap (λ k. read_slot g.inodes (take SLOT_BYTES (drop (SLOT_BYTES * k) (blocks at.number)))) offsets_agree
       ∙ at.slot.is)
       (slots.none_refused snap blocks tree number inode is (SLOTS_PER_BLOCK * index + at.slot.slot)
       (omega (arith, low, less)))
 
   -- a pointer block whose numbers are those of data blocks isn't refused
-  no_pointer : (pointer : ℕ) → are_far_placed g blocks pointer → IsRefusedPointer snap blocks pointer → ⊥
+  no_pointer : (pointer : ℕ) → are_pointers_placed g blocks pointer → IsRefusedPointer snap blocks pointer → ⊥
   no_pointer pointer placed refused =
       let clash : true ≡ false =
       sym (ap (λ l. list_all (is_data_block_or_none g) (numbers_at INDIRECT_INDEXES 0 l))
@@ -90,19 +90,19 @@ module _ (snap : Snap) (blocks : Image) (tree : Tree) (number : ℕ) (inode : In
 
   -- the number of an inner block, as its double indirect block has it
   inner_named : (inner : ℕ) → is_data g inode.double ≡ true
-      → get_or (numbers_at INDIRECT_INDEXES 0 (blocks inode.double)) inner 0 ≡ far_at content inode.double inner
+      → get_or (numbers_at INDIRECT_INDEXES 0 (blocks inode.double)) inner 0 ≡ pointer_number_at content inode.double inner
   inner_named inner lies =
-      some_far content inode.double inner (blocks inode.double) (some_data g inode.double lies)
+      some_indirect content inode.double inner (blocks inode.double) (some_data g inode.double lies)
       (content_is g blocks inode.double lies)
 
   no_pointers : HasRefusedPointer snap blocks inode → ⊥
   no_pointers (refused_indirect one) =
-      no_pointer inode.indirect (far_placed snap blocks tree number inode has) one
+      no_pointer inode.indirect (indirect_part_placed snap blocks tree number inode has) one
   no_pointers (refused_double one) =
-      no_pointer inode.double (double_far_placed snap blocks tree number inode has) one
+      no_pointer inode.double (double_part_placed snap blocks tree number inode has) one
   no_pointers (refused_inner below) =
-      no_pointer (far_at content inode.double below.inner)
-      (inner_far_placed g blocks inode.double (inner_placed snap blocks tree number inode has) below.inner)
+      no_pointer (pointer_number_at content inode.double below.inner)
+      (inner_part_placed g blocks inode.double (inner_placed snap blocks tree number inode has) below.inner)
       (subst (IsRefusedPointer snap blocks) (inner_named below.inner below.read.lies) below.is)
 
   no_block : HasRefusedBlock snap blocks inode → ⊥

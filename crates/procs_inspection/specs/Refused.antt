@@ -36,14 +36,14 @@ pub record WasReadBlock (snap : Snap) (blocks : Image) (number : ℕ) : Type 0 w
   pub whole : length (blocks number) ≡ BLOCK_BYTES
 
 -- the numbers in an indirect block
-abbrev pub far_numbers : Image → Inode → List ℕ
-far_numbers blocks inode = numbers_at INDIRECT_INDEXES 0 (blocks inode.indirect)
+abbrev pub indirect_row : Image → Inode → List ℕ
+indirect_row blocks inode = numbers_at INDIRECT_INDEXES 0 (blocks inode.indirect)
 
 -- A directory has the block of this number at an index: by its inode, or by its indirect block, which was read.
 pub data Names (snap : Snap) (blocks : Image) (inode : Inode) (index number : ℕ) : Type 0 where
-  near : index < DIRECT_INDEXES → number ≡ get_or inode.direct index 0 → Names snap blocks inode index number
-  far : DIRECT_INDEXES ≤ index → index < MOST_SPAN → WasReadBlock snap blocks inode.indirect
-      → number ≡ get_or (far_numbers blocks inode) (index - DIRECT_INDEXES) 0
+  direct_part : index < DIRECT_INDEXES → number ≡ get_or inode.direct index 0 → Names snap blocks inode index number
+  indirect_part : DIRECT_INDEXES ≤ index → index < MOST_SPAN → WasReadBlock snap blocks inode.indirect
+      → number ≡ get_or (indirect_row blocks inode) (index - DIRECT_INDEXES) 0
       → Names snap blocks inode index number
 
 -- the layout refuses a slot of a block

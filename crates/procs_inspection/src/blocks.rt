@@ -181,7 +181,7 @@ fn is_refused_double(snap: &Snap, double: u32) -> bool
 }
 
 // Whether a pointer block was read of a file that names what is no data block.
-fn is_refused_far(snap: &Snap, inode: &Inode) -> bool
+fn is_refused_in_indirect(snap: &Snap, inode: &Inode) -> bool
     ensures some { result ≡ true → (blocks : Image) → AreRead snap.now blocks
         → HasRefusedPointer snap.now blocks inode.now }
     ensures none { result ≡ false → (blocks : Image) → Saw blocks snap.now
@@ -195,18 +195,18 @@ fn is_refused_far(snap: &Snap, inode: &Inode) -> bool
 
 /// Whether the layout refuses a block of a file, as far as its blocks were read. Of so many first ones of a directory
 /// it is known that it doesn't.
-pub(crate) fn has_refused_block(snap: &Snap, inode: &Inode, clear: usize) -> bool
+pub(crate) fn has_refused_block(snap: &Snap, inode: &Inode, valid_blocks: usize) -> bool
     ensures some { result ≡ true → (blocks : Image) → AreRead snap.now blocks
         → HasRefusedBlock snap.now blocks inode.now }
     ensures none { result ≡ false → (blocks : Image) → Saw blocks snap.now
-        → ((index : ℕ) → index < clear → IsRefusedAt snap.now blocks inode.now index → ⊥)
+        → ((index : ℕ) → index < valid_blocks → IsRefusedAt snap.now blocks inode.now index → ⊥)
         → HasRefusedBlock snap.now blocks inode.now → ⊥ }
 {
-    if is_refused_far(snap, inode) {
+    if is_refused_in_indirect(snap, inode) {
         return true;
     }
     match inode.kind {
-        InodeKind::Directory => is_refused_directory(snap, inode, clear),
+        InodeKind::Directory => is_refused_directory(snap, inode, valid_blocks),
         InodeKind::Regular | InodeKind::Link => false,
     }
 }

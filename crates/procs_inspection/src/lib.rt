@@ -2,8 +2,8 @@
 #![tactic(auto)]
 
 mod blocks;
-mod laws;
-mod reading;
+mod read_inodes;
+mod refusal_laws;
 
-pub use laws::what_is_refused_is_in_no_tree;
-pub use reading::is_refused;
+pub use read_inodes::is_refused;
+pub use refusal_laws::what_is_refused_is_in_no_tree;

@@ -4,4 +4,4 @@ pub mod Needs
 pub mod Roomy
 pub mod Shaped
 pub mod SoundShapes
-pub mod Near
+pub mod WithinSpan

@@ -3,10 +3,11 @@
 #![tactic(auto)]
 
 mod links;
-mod names;
+mod name_procedures;
 
 pub use links::{
-    changed_to, depart, enter_name, entry_adds, gain_link, has_entry_room, is_directory, lose_name,
-    more_links, parent_links, refused, slot_with_room, sought, take_name, told_since,
+    change_since, changed_to, depart, dirent_adds, enter_name, gain_link, has_dirent_blocks,
+    is_directory, lookup_for_change, lose_name, more_links, parent_links, refused,
+    slot_with_blocks, take_name,
 };
-pub use names::{LinkTold, link, remove, remove_directory};
+pub use name_procedures::{LinkReplyParts, link, remove, remove_directory};

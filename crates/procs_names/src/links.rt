@@ -1,13 +1,13 @@
 //! What the procedures that change names share: names that come and go, links, room, and what is told.
 
-mod departing;
-mod entering;
+mod change_replies;
+mod insertion;
 mod links;
-mod seeking;
-mod telling;
+mod lookup;
+mod removal;
 
-pub use departing::{depart, lose_name, take_name};
-pub use entering::{enter_name, entry_adds, gain_link, has_entry_room, slot_with_room};
+pub use change_replies::{change_since, changed_to, refused};
+pub use insertion::{dirent_adds, enter_name, gain_link, has_dirent_blocks, slot_with_blocks};
 pub use links::{is_directory, more_links, parent_links};
-pub use seeking::sought;
-pub use telling::{changed_to, refused, told_since};
+pub use lookup::lookup_for_change;
+pub use removal::{depart, lose_name, take_name};

@@ -1,1 +1,1 @@
-pub mod LookedUp
+pub mod LookupFound

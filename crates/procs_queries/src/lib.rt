@@ -7,6 +7,6 @@ mod queries;
 
 pub use listings::{read_directory, read_directory_plus};
 pub use queries::{
-    access, commit, file_system_info, file_system_space, get_attributes, look_up, make_special,
+    access, commit, file_system_info, file_system_space, get_attributes, lookup_name, make_special,
     path_limits, read, read_link,
 };

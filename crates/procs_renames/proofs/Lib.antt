@@ -4,5 +4,5 @@ pub mod Movable
 pub mod Parents
 pub mod Placed
 pub mod RenameSteps
-pub mod Sought
+pub mod RefusalTests
 pub mod Spaces

@@ -13,43 +13,43 @@ use Rattle.nfs_types.specs.declared.ctx.Moment.{Moment}
 use Rattle.nfs_types.specs.declared.verifier.Verifier.{Verifier}
 use Rattle.nfs_spec.specs.Model.Cost.{cost}
 use Rattle.nfs_spec.specs.Model.Names.{entries_of, is_directory, parent_of}
-use Rattle.nfs_spec.specs.Model.Node.{Node, Body, DirectoryEntry, Regular, Directory, Link}
+use Rattle.nfs_spec.specs.Model.Node.{Node, Body, DirentValue, Regular, Directory, Link}
 use Rattle.nfs_spec.specs.Model.SetAttr.{given}
 use Rattle.nfs_spec.specs.Model.Sound.{Sound, SoundNode, SoundTime, SoundVerifier}
 use Rattle.nfs_spec.specs.Model.Tree.{Tree, cost_at, free, need, node_at, with_node}
-use Rattle.nfs_spec.proofs.ProceduresLemmas.Deeds.{NamedBy, Placed, named_is, passed}
-use Rattle.nfs_spec.proofs.ProceduresLemmas.Entering.{FreeSlot, count_departed, entry_before, least_is_free, named_in, names_apart}
-use Rattle.nfs_spec.proofs.ProceduresLemmas.Entering.{same_kind_departed, sound_name}
+use Rattle.nfs_spec.proofs.ProceduresLemmas.TreeChanges.{NamedBy, Placed, named_is, passed}
+use Rattle.nfs_spec.proofs.ProceduresLemmas.NameChanges.{FreeSlot, count_departed, dirent_before, least_is_free, named_in, names_apart}
+use Rattle.nfs_spec.proofs.ProceduresLemmas.NameChanges.{same_kind_departed, sound_name}
 use Rattle.nfs_spec.proofs.ProceduresLemmas.Lacking.{Change, Lacking, equal_or_not, none_lacks, of_sound, put_change}
 use Rattle.nfs_spec.proofs.ProceduresLemmas.Naming.{depart, not_in_itself, one_less, one_of_other}
 use Rattle.nfs_spec.proofs.ProceduresLemmas.Parts.{one_key}
-use Rattle.nfs_spec.proofs.ProceduresLemmas.Renaming.{body_distinct, body_slots, entry_gone}
-use Rattle.nfs_spec.proofs.ProceduresLemmas.Room.{used_within}
-use Rattle.nfs_spec.proofs.ProceduresLemmas.Soundness.{changed_is, few_links, links_of_directory, no_entry, parent_links_is}
+use Rattle.nfs_spec.proofs.ProceduresLemmas.Renaming.{body_distinct, body_slots, dirent_gone}
+use Rattle.nfs_spec.proofs.ProceduresLemmas.UsedWithin.{used_within}
+use Rattle.nfs_spec.proofs.ProceduresLemmas.Soundness.{changed_is, few_links, links_of_directory, no_dirent, parent_links_is}
 use Rattle.nfs_spec.proofs.ProceduresLemmas.Soundness.{same_geometry}
 use Rattle.nfs_spec.proofs.ProceduresLemmas.Sums.{need_of_one}
 use Rattle.nfs_spec.proofs.ProceduresLemmas.Tests.{differs, equal, unequal}
 use Rattle.nfs_spec.proofs.ProceduresLemmas.Within.{never_reached}
-use Rattle.nfs_spec.specs.Procedures.Changes.{changed_at, departed, entered, parent_links, unnamed, with_entry}
-use Rattle.nfs_spec.specs.Procedures.Changes.{without_entry, without_name}
+use Rattle.nfs_spec.specs.Procedures.Changes.{changed_at, departed, entered, parent_links, unnamed, with_dirent}
+use Rattle.nfs_spec.specs.Procedures.Changes.{without_dirent, without_name}
 use Rattle.nfs_spec.specs.Procedures.MkDir.{is_full}
-use Rattle.nfs_spec.specs.Procedures.Places.{entry_at}
-use Rattle.nfs_spec.specs.Procedures.Rename.{Place, file_in, goes_below_itself, has_no_link, is_other_sort, is_within}
+use Rattle.nfs_spec.specs.Procedures.Places.{dirent_at}
+use Rattle.nfs_spec.specs.Procedures.Rename.{Dentry, file_in, goes_below_itself, has_no_link, is_other_sort, is_within}
 use Rattle.nfs_spec.specs.Procedures.Rename.{move_refusal, moved, new_slot, slot_for, with_moved, with_parent}
 use Rattle.nfs_spec.specs.Procedures.RmDir.{has_names, is_found_filled}
-use Rattle.procs_files.specs.Changing.{CanEnter, adds, spanned}
+use Rattle.procs_files.specs.Writable.{CanEnter, adds, spanned}
 use Rattle.procs_names.proofs.LinksLemmas.Entered.{can_enter_at, shaped_entered}
-use Rattle.procs_names.proofs.LinksLemmas.Near.{least_is_near, named_is_near, same_span, slot_untaken}
+use Rattle.procs_names.proofs.LinksLemmas.WithinSpan.{least_is_within_span, named_is_within_span, same_span, slot_untaken}
 use Rattle.procs_names.proofs.LinksLemmas.Needs.{need_put}
 use Rattle.procs_names.proofs.LinksLemmas.Shaped.{elsewhere, same_inodes}
 use Rattle.procs_names.proofs.LinksLemmas.SoundShapes.{can_lose, can_take, shape_of, sound_shape}
 use Rattle.procs_names.specs.Links.Shapes.{CanTake, IsShaped}
 use Rattle.procs_renames.proofs.Spaces.{same_cost_departed, same_more_departed, same_need, unnamed_need}
 use Rattle.procs_renames.proofs.Spaces.{unnamed_there}
-use Rattle.procs_renames.specs.Placing.{CanMove, CanPlace, CanReplace, left_tree}
+use Rattle.procs_renames.specs.Placing.{CanMove, CanLinkRenamed, CanReplace, left_tree}
 
 -- What the tests of a move show, for a slot of the new name.
-pub record Goes (tree : Tree) (source target : Place) (number : ℕ) (node : Node) (slot : ℕ) : Type 0 where
+pub record Goes (tree : Tree) (source target : Dentry) (number : ℕ) (node : Node) (slot : ℕ) : Type 0 where
   pub source_stands : node_at tree source.number ≡ Some source.directory
   pub target_stands : node_at tree target.number ≡ Some target.directory
   pub placed : Placed target.directory target.name
@@ -61,28 +61,28 @@ pub record Goes (tree : Tree) (source target : Place) (number : ℕ) (node : Nod
 
 -- ---- directories by their entries
 
-kept_by : (b : Bool) (o : Option DirectoryEntry) → b ≡ false → cond b None o ≡ o
-kept_by true o e = cc
-kept_by false o e = refl
+preserved_by : (b : Bool) (o : Option DirentValue) → b ≡ false → cond b None o ≡ o
+preserved_by true o e = cc
+preserved_by false o e = refl
 
 -- another name leads where it led
-entry_kept : (name other : List ℕ) (body : Body) → other ≢ name
-    → entry_at (without_entry name body) other ≡ entry_at body other
-entry_kept name other (Regular bytes mapped) apart = refl
-entry_kept name other (Directory named span parent) apart =
+dirent_preserved : (name other : List ℕ) (body : Body) → other ≢ name
+    → dirent_at (without_dirent name body) other ≡ dirent_at body other
+dirent_preserved name other (Regular bytes mapped) apart = refl
+dirent_preserved name other (Directory named span parent) apart =
     get-remove nat_list_cmp_total named name other
-    ∙ kept_by _ (get named other) (not_tied (eq_by_cmp (slice_cmp nat_cmp) other name) refl)
+    ∙ preserved_by _ (get named other) (not_tied (eq_by_cmp (slice_cmp nat_cmp) other name) refl)
   where
     not_tied : (b : Bool) → eq_by_cmp (slice_cmp nat_cmp) other name ≡ b → b ≡ false
     not_tied true e = absurd (apart (one_key names_apart other name e))
     not_tied false e = refl
-entry_kept name other (Link target) apart = refl
+dirent_preserved name other (Link target) apart = refl
 
 -- a directory with an entry has names in it
-filled : (body : Body) (name : List ℕ) (entry : DirectoryEntry) → entry_at body name ≡ Some entry
+filled : (body : Body) (name : List ℕ) (dirent : DirentValue) → dirent_at body name ≡ Some dirent
     → has_names body ≡ false → ⊥
-filled body name entry is none =
-    let sum = count_departed (λ e. true) name entry body is in
+filled body name dirent is none =
+    let sum = count_departed (λ e. true) name dirent body is in
     let most = count_by-le-length (λ e. true) (entries_of body) in
     let empty = not_some (length (entries_of body)) none in
     omega (arith, sum, most, empty)
@@ -90,10 +90,10 @@ filled body name entry is none =
     not_some : (n : ℕ) → nat_lt 0 n ≡ false → n ≡ 0
     not_some n e = grind (arith, nat_tests, e)
 
-none_at : (body : Body) (name : List ℕ) (o : Option DirectoryEntry) → entry_at body name ≡ o
-    → ((entry : DirectoryEntry) → entry_at body name ≡ Some entry → ⊥) → o ≡ None
+none_at : (body : Body) (name : List ℕ) (o : Option DirentValue) → dirent_at body name ≡ o
+    → ((dirent : DirentValue) → dirent_at body name ≡ Some dirent → ⊥) → o ≡ None
 none_at body name None is never = refl
-none_at body name (Some entry) is never = absurd (never entry is)
+none_at body name (Some dirent) is never = absurd (never dirent is)
 
 -- ---- files in their new places
 
@@ -168,7 +168,7 @@ same_sort node other = by (is_directory node.body) (is_directory other.body)
 
 -- ---- the move
 
-module _ (tree : Tree) (good : Sound tree) (moment : Moment) (soon : SoundTime moment) (source target : Place)
+module _ (tree : Tree) (good : Sound tree) (moment : Moment) (soon : SoundTime moment) (source target : Dentry)
     (number : ℕ) (node : Node) (slot : ℕ) (d : Goes tree source target number node slot) where
   abbrev base : Lacking tree none_lacks
   base = of_sound tree good
@@ -176,7 +176,7 @@ module _ (tree : Tree) (good : Sound tree) (moment : Moment) (soon : SoundTime m
   named : NamedBy tree source.directory.body source.name (number, node)
   named = named_is tree source.directory source.name (number, node) d.found
 
-  named_there : node_at tree named.entry.number ≡ Some node
+  named_there : node_at tree named.dirent.number ≡ Some node
   named_there = ap (node_at tree) named.number_is ∙ named.stands
 
   abbrev less : Node
@@ -194,13 +194,13 @@ module _ (tree : Tree) (good : Sound tree) (moment : Moment) (soon : SoundTime m
   left_lacks : Lacking left lacking
   left_lacks =
       subst (λ n. Lacking left (one_less none_lacks n)) named.number_is
-      (depart tree none_lacks base source.number source.directory d.source_stands source.name named.entry
-      named.entry_is node named_there refl moment soon)
+      (depart tree none_lacks base source.number source.directory d.source_stands source.name named.dirent
+      named.dirent_is node named_there refl moment soon)
 
   apart_source : number ≢ source.number
   apart_source same =
-      not_in_itself tree none_lacks base source.number source.directory d.source_stands source.name named.entry
-      named.entry_is node named_there refl (named.number_is ∙ same)
+      not_in_itself tree none_lacks base source.number source.directory d.source_stands source.name named.dirent
+      named.dirent_is node named_there refl (named.number_is ∙ same)
 
   below_test : goes_below_itself tree (number, node) target.number ≡ false
   below_test = (passed (goes_below_itself tree (number, node) target.number) _ _ d.tested).0
@@ -255,16 +255,16 @@ module _ (tree : Tree) (good : Sound tree) (moment : Moment) (soon : SoundTime m
     directory : Node
     is : node_at left target.number ≡ Some directory
     kind : is_directory directory.body ≡ true
-    before : (name : List ℕ) (entry : DirectoryEntry) → entry_at directory.body name ≡ Some entry
-        → entry_at target.directory.body name ≡ Some entry
-    old_gone : target.number ≡ source.number → entry_at directory.body source.name ≡ None
-    kept : (entry : DirectoryEntry) → entry_at target.directory.body target.name ≡ Some entry
-        → entry.number ≢ number → entry_at directory.body target.name ≡ Some entry
+    before : (name : List ℕ) (dirent : DirentValue) → dirent_at directory.body name ≡ Some dirent
+        → dirent_at target.directory.body name ≡ Some dirent
+    old_gone : target.number ≡ source.number → dirent_at directory.body source.name ≡ None
+    is_preserved : (dirent : DirentValue) → dirent_at target.directory.body target.name ≡ Some dirent
+        → dirent.number ≢ number → dirent_at directory.body target.name ≡ Some dirent
     few : target.number ≡ source.number → 1 ≤ parent_links node.body → directory.nlink + 1 ≤ MOST_LINKS
     same_links : target.number ≢ source.number → directory ≡ target.directory
     cost_is : cost directory.body ≡ cost target.directory.body
-    more_is : (name : List ℕ) (entry : DirectoryEntry)
-        → cost (with_entry name entry directory.body) ≡ cost (with_entry name entry target.directory.body)
+    more_is : (name : List ℕ) (dirent : DirentValue)
+        → cost (with_dirent name dirent directory.body) ≡ cost (with_dirent name dirent target.directory.body)
 
   few_by : 1 ≤ parent_links node.body → less.nlink + 1 ≤ MOST_LINKS
   few_by one =
@@ -280,28 +280,28 @@ module _ (tree : Tree) (good : Sound tree) (moment : Moment) (soon : SoundTime m
       let one : Some target.directory ≡ Some source.directory =
       sym d.target_stands ∙ ap (node_at tree) same ∙ d.source_stands in
       let directory_is : target.directory ≡ source.directory = cc in
-      let at : (name : List ℕ) → entry_at target.directory.body name ≡ entry_at source.directory.body name =
-      λ name. ap (λ n. entry_at n.body name) directory_is in
+      let at : (name : List ℕ) → dirent_at target.directory.body name ≡ dirent_at source.directory.body name =
+      λ name. ap (λ n. dirent_at n.body name) directory_is in
       record {
         directory = less;
         is = ap (node_at left) same ∙ put_left.here;
         kind = same_kind_departed source.name source.directory.body
             ∙ ap (λ n. is_directory n.body) (sym directory_is) ∙ d.placed.directory_is;
-        before = λ name entry is. at name ∙ entry_before source.name name source.directory.body entry is;
-        old_gone = λ _. entry_gone source.name source.directory.body;
-        kept = λ entry is other.
-            entry_kept source.name target.name source.directory.body (λ same_name.
-            let both : Some entry ≡ Some named.entry =
-            sym is ∙ at target.name ∙ ap (entry_at source.directory.body) same_name ∙ named.entry_is in
-            let entry_is : entry ≡ named.entry = cc in
-            other (ap (λ e. e.number) entry_is ∙ named.number_is))
+        before = λ name dirent is. at name ∙ dirent_before source.name name source.directory.body dirent is;
+        old_gone = λ _. dirent_gone source.name source.directory.body;
+        is_preserved = λ dirent is other.
+            dirent_preserved source.name target.name source.directory.body (λ same_name.
+            let both : Some dirent ≡ Some named.dirent =
+            sym is ∙ at target.name ∙ ap (dirent_at source.directory.body) same_name ∙ named.dirent_is in
+            let dirent_is : dirent ≡ named.dirent = cc in
+            other (ap (λ e. e.number) dirent_is ∙ named.number_is))
             ∙ sym (at target.name) ∙ is;
         few = λ _ one_link. few_by one_link;
         same_links = λ apart. absurd (apart same);
         cost_is = same_cost_departed source.name source.directory.body
             ∙ ap (λ n. cost n.body) (sym directory_is);
-        more_is = λ name entry. same_more_departed source.name source.directory.body name entry
-            ∙ ap (λ n. cost (with_entry name entry n.body)) (sym directory_is);
+        more_is = λ name dirent. same_more_departed source.name source.directory.body name dirent
+            ∙ ap (λ n. cost (with_dirent name dirent n.body)) (sym directory_is);
       }
 
   target_other : target.number ≢ source.number → Target
@@ -309,13 +309,13 @@ module _ (tree : Tree) (good : Sound tree) (moment : Moment) (soon : SoundTime m
     directory = target.directory;
     is = put_left.there target.number apart ∙ d.target_stands;
     kind = d.placed.directory_is;
-    before = λ name entry is. is;
+    before = λ name dirent is. is;
     old_gone = λ same. absurd (apart same);
-    kept = λ entry is other. is;
+    is_preserved = λ dirent is other. is;
     few = λ same. absurd (apart same);
     same_links = λ _. refl;
     cost_is = refl;
-    more_is = λ name entry. refl;
+    more_is = λ name dirent. refl;
   }
 
   on_target : Target
@@ -326,24 +326,24 @@ module _ (tree : Tree) (good : Sound tree) (moment : Moment) (soon : SoundTime m
       ]
 
   -- The tree once nothing stands in the way.
-  record Clear : Type 0 where
+  record TargetFreed : Type 0 where
     tree_is : Tree
     made : without_name left moment target.number target.name (file_in tree target) ≡ tree_is
     directory : Node
     is : node_at tree_is target.number ≡ Some directory
     shaped : IsShaped tree.geometry.inodes directory
     kind : is_directory directory.body ≡ true
-    before : (name : List ℕ) (entry : DirectoryEntry) → entry_at directory.body name ≡ Some entry
-        → entry_at target.directory.body name ≡ Some entry
-    old_gone : target.number ≡ source.number → entry_at directory.body source.name ≡ None
-    absent : entry_at directory.body target.name ≡ None
+    before : (name : List ℕ) (dirent : DirentValue) → dirent_at directory.body name ≡ Some dirent
+        → dirent_at target.directory.body name ≡ Some dirent
+    old_gone : target.number ≡ source.number → dirent_at directory.body source.name ≡ None
+    absent : dirent_at directory.body target.name ≡ None
     few : directory.nlink + parent_links node.body ≤ MOST_LINKS
     node_is : node_at tree_is number ≡ Some node
     geometry : tree_is.geometry ≡ tree.geometry
     unneeded : need tree tree_is ≡ 0
     cost_is : cost directory.body ≡ cost target.directory.body
-    more_is : (name : List ℕ) (entry : DirectoryEntry)
-        → cost (with_entry name entry directory.body) ≡ cost (with_entry name entry target.directory.body)
+    more_is : (name : List ℕ) (dirent : DirentValue)
+        → cost (with_dirent name dirent directory.body) ≡ cost (with_dirent name dirent target.directory.body)
     takes : (other : ℕ × Node) → file_in tree target ≡ Some other
         → CanTake left moment target.number target.name other.0 other.1
     not_source : (other : ℕ × Node) → file_in tree target ≡ Some other → other.0 ≢ source.number
@@ -351,9 +351,9 @@ module _ (tree : Tree) (good : Sound tree) (moment : Moment) (soon : SoundTime m
   node_in_left : node_at left number ≡ Some node
   node_in_left = put_left.there number apart_source ∙ named.stands
 
-  room_for_link : file_in tree target ≡ None → target.number ≢ source.number → is_directory node.body ≡ true
+  space_for_link : file_in tree target ≡ None → target.number ≢ source.number → is_directory node.body ≡ true
       → is_full target.directory ≡ false
-  room_for_link none apart dir =
+  space_for_link none apart dir =
       let test : has_no_link node source.number (target.number, target.directory) None ≡ false =
       ap (has_no_link node source.number (target.number, target.directory)) (sym none) ∙ link_test in
       third (is_directory node.body) (nat_eq source.number target.number) (is_full target.directory) test dir
@@ -367,11 +367,11 @@ module _ (tree : Tree) (good : Sound tree) (moment : Moment) (soon : SoundTime m
       elim (equal_or_not target.number source.number) [
         | inl same ↦ not_full t.directory (t.few same one)
         | inr apart ↦ ap is_full (t.same_links apart)
-            ∙ room_for_link none apart (links_of_directory node.body one)
+            ∙ space_for_link none apart (links_of_directory node.body one)
       ])
 
   -- nothing stands there
-  nothing_there : (t : Target) → file_in tree target ≡ None → Clear
+  nothing_there : (t : Target) → file_in tree target ≡ None → TargetFreed
   nothing_there t none = record {
     tree_is = left;
     made = ap (without_name left moment target.number target.name) none;
@@ -381,10 +381,10 @@ module _ (tree : Tree) (good : Sound tree) (moment : Moment) (soon : SoundTime m
     kind = t.kind;
     before = t.before;
     old_gone = t.old_gone;
-    absent = none_at t.directory.body target.name (entry_at t.directory.body target.name) refl (λ entry is.
-        let there = t.before target.name entry is in
-        let absent = no_entry tree good target.number target.directory d.target_stands target.name none in
-        let never : None ≡ Some entry = sym absent ∙ there in cc);
+    absent = none_at t.directory.body target.name (dirent_at t.directory.body target.name) refl (λ dirent is.
+        let there = t.before target.name dirent is in
+        let absent = no_dirent tree good target.number target.directory d.target_stands target.name none in
+        let never : None ≡ Some dirent = sym absent ∙ there in cc);
     few = few_in_left t none;
     node_is = node_in_left;
     geometry = refl;
@@ -405,7 +405,7 @@ module _ (tree : Tree) (good : Sound tree) (moment : Moment) (soon : SoundTime m
         differs other.0 number (ap (λ o. given o (λ file. nat_eq file.0 number)) (sym there) ∙ d.apart)
 
     abbrev way : ℕ
-    way = in_way.entry.number
+    way = in_way.dirent.number
 
     way_apart : way ≢ number
     way_apart same = other_apart (sym in_way.number_is ∙ same)
@@ -423,12 +423,12 @@ module _ (tree : Tree) (good : Sound tree) (moment : Moment) (soon : SoundTime m
         sym way_stands ∙ ap (node_at tree) same ∙ d.source_stands in
         let is : other.1 ≡ source.directory = cc in
         let dir = ap (λ n. is_directory n.body) is
-        ∙ named_in source.directory.body source.name named.entry named.entry_is in
+        ∙ named_in source.directory.body source.name named.dirent named.dirent_is in
         let none = ap (λ n. has_names n.body) (sym is) ∙ way_empty dir in
-        filled source.directory.body source.name named.entry named.entry_is none
+        filled source.directory.body source.name named.dirent named.dirent_is none
 
-    entry_there : entry_at t.directory.body target.name ≡ Some in_way.entry
-    entry_there = t.kept in_way.entry in_way.entry_is way_apart
+    dirent_there : dirent_at t.directory.body target.name ≡ Some in_way.dirent
+    dirent_there = t.is_preserved in_way.dirent in_way.dirent_is way_apart
 
     way_in_left : node_at left way ≡ Some other.1
     way_in_left = put_left.there way way_not_source ∙ way_stands
@@ -444,12 +444,12 @@ module _ (tree : Tree) (good : Sound tree) (moment : Moment) (soon : SoundTime m
 
     parted_lacks : Lacking parted (one_less lacking way)
     parted_lacks =
-        depart left lacking left_lacks target.number t.directory t.is target.name in_way.entry entry_there other.1
+        depart left lacking left_lacks target.number t.directory t.is target.name in_way.dirent dirent_there other.1
         way_in_left whole moment soon
 
     way_not_target : way ≢ target.number
     way_not_target =
-        not_in_itself left lacking left_lacks target.number t.directory t.is target.name in_way.entry entry_there
+        not_in_itself left lacking left_lacks target.number t.directory t.is target.name in_way.dirent dirent_there
         other.1 way_in_left whole
 
     put_parted : Change left parted target.number (Some t.directory) (Some lesser)
@@ -487,7 +487,7 @@ module _ (tree : Tree) (good : Sound tree) (moment : Moment) (soon : SoundTime m
       loses = can_lose left moment other.1 soon (sound_shape tree good other.0 other.1 in_way.stands);
     }
 
-    file_in_way : Clear
+    file_in_way : TargetFreed
     file_in_way = record {
       tree_is = unnamed parted moment way other.1;
       made = ap (without_name left moment target.number target.name) there
@@ -499,18 +499,18 @@ module _ (tree : Tree) (good : Sound tree) (moment : Moment) (soon : SoundTime m
           ∙ put_parted.here;
       shaped = lesser_shaped;
       kind = same_kind_departed target.name t.directory.body ∙ t.kind;
-      before = λ name entry is. t.before name entry (entry_before target.name name t.directory.body entry is);
-      old_gone = λ same. none_at lesser.body source.name (entry_at lesser.body source.name) refl (λ entry is.
-          let was = entry_before target.name source.name t.directory.body entry is in
-          let never : None ≡ Some entry = sym (t.old_gone same) ∙ was in cc);
-      absent = entry_gone target.name t.directory.body;
+      before = λ name dirent is. t.before name dirent (dirent_before target.name name t.directory.body dirent is);
+      old_gone = λ same. none_at lesser.body source.name (dirent_at lesser.body source.name) refl (λ dirent is.
+          let was = dirent_before target.name source.name t.directory.body dirent is in
+          let never : None ≡ Some dirent = sym (t.old_gone same) ∙ was in cc);
+      absent = dirent_gone target.name t.directory.body;
       few = few_lesser;
       node_is = unnamed_there parted moment way other.1 way_in_parted number (λ same. way_apart (sym same))
           ∙ node_in_parted;
       geometry = same_geometry parted moment way other.1;
       unneeded = unnamed_need tree parted parted_need way other.1 way_in_parted moment (ap cost_at way_stands);
       cost_is = same_cost_departed target.name t.directory.body ∙ t.cost_is;
-      more_is = λ name entry. same_more_departed target.name t.directory.body name entry ∙ t.more_is name entry;
+      more_is = λ name dirent. same_more_departed target.name t.directory.body name dirent ∙ t.more_is name dirent;
       takes = λ file found.
           let one : Some other ≡ Some file = sym there ∙ found in
           let same : other ≡ file = cc in
@@ -521,56 +521,56 @@ module _ (tree : Tree) (good : Sound tree) (moment : Moment) (soon : SoundTime m
           way_not_source (in_way.number_is ∙ ap (λ (o : ℕ × Node). o.0) same ∙ same_number);
     }
 
-  cleared_of : (found : Option (ℕ × Node)) → file_in tree target ≡ found → Clear
+  cleared_of : (found : Option (ℕ × Node)) → file_in tree target ≡ found → TargetFreed
   cleared_of None none = nothing_there on_target none
   cleared_of (Some other) there = file_in_way on_target other there
 
-  cleared : Clear
+  cleared : TargetFreed
   cleared = cleared_of (file_in tree target) refl
 
   -- The slot of the new name.
 
   record Slot : Type 0 where
     small : slot < SLOTS_PER_BLOCK * MOST_SPAN
-    near : slot ≤ SLOTS_PER_BLOCK * spanned target.directory.body
-    taken : (name : List ℕ) (entry : DirectoryEntry) → entry_at target.directory.body name ≡ Some entry
-        → entry.slot ≡ slot
+    within_span : slot ≤ SLOTS_PER_BLOCK * spanned target.directory.body
+    taken : (name : List ℕ) (dirent : DirentValue) → dirent_at target.directory.body name ≡ Some dirent
+        → dirent.slot ≡ slot
         → (name ≡ target.name) ⊎ ((target.number ≡ source.number) × (name ≡ source.name))
 
-  slot_within : (entry : Option DirectoryEntry) → entry_at source.directory.body source.name ≡ entry
-      → target.number ≡ source.number → option_map (λ e. e.slot) entry ≡ Some slot → Slot
+  slot_within : (dirent : Option DirentValue) → dirent_at source.directory.body source.name ≡ dirent
+      → target.number ≡ source.number → option_map (λ e. e.slot) dirent ≡ Some slot → Slot
   slot_within None is same found = cc
-  slot_within (Some entry) is same found =
-      let slot_so : entry.slot ≡ slot = cc in
+  slot_within (Some dirent) is same found =
+      let slot_so : dirent.slot ≡ slot = cc in
       let one : Some target.directory ≡ Some source.directory =
       sym d.target_stands ∙ ap (node_at tree) same ∙ d.source_stands in
       let directory_is : target.directory ≡ source.directory = cc in
-      let small = body_slots source.directory.body source.name entry source_sound.body is in
-      let low = named_is_near source.directory.body source.name entry source_sound.body is in
+      let small = body_slots source.directory.body source.name dirent source_sound.body is in
+      let low = named_is_within_span source.directory.body source.name dirent source_sound.body is in
       let wide = ap (λ (n : Node). spanned n.body) directory_is in
       record {
         small = omega (arith, slot_so, small);
-        near = omega (arith, slot_so, low, wide);
+        within_span = omega (arith, slot_so, low, wide);
         taken = λ name other has same_slot.
             inr (
               same,
-              body_distinct source.directory.body name source.name other entry source_sound.body
-                  (ap (λ n. entry_at n.body name) (sym directory_is) ∙ has) is (same_slot ∙ sym slot_so),
+              body_distinct source.directory.body name source.name other dirent source_sound.body
+                  (ap (λ n. dirent_at n.body name) (sym directory_is) ∙ has) is (same_slot ∙ sym slot_so),
             );
       }
 
-  slot_by : (within : Bool) (old replaced : Option DirectoryEntry) → nat_eq source.number target.number ≡ within
-      → entry_at source.directory.body source.name ≡ old → entry_at target.directory.body target.name ≡ replaced
+  slot_by : (within : Bool) (old replaced : Option DirentValue) → nat_eq source.number target.number ≡ within
+      → dirent_at source.directory.body source.name ≡ old → dirent_at target.directory.body target.name ≡ replaced
       → slot_for within old replaced target.directory.body ≡ Some slot → Slot
-  slot_by within old (Some entry) same is has found =
-      let slot_so : entry.slot ≡ slot = cc in
-      let small = body_slots target.directory.body target.name entry target_sound.body has in
-      let low = named_is_near target.directory.body target.name entry target_sound.body has in
+  slot_by within old (Some dirent) same is has found =
+      let slot_so : dirent.slot ≡ slot = cc in
+      let small = body_slots target.directory.body target.name dirent target_sound.body has in
+      let low = named_is_within_span target.directory.body target.name dirent target_sound.body has in
       record {
         small = omega (arith, slot_so, small);
-        near = omega (arith, slot_so, low);
+        within_span = omega (arith, slot_so, low);
         taken = λ name other there same_slot.
-            inl (body_distinct target.directory.body name target.name other entry target_sound.body there has
+            inl (body_distinct target.directory.body name target.name other dirent target_sound.body there has
             (same_slot ∙ sym slot_so));
       }
   slot_by true old None same is has found =
@@ -579,38 +579,38 @@ module _ (tree : Tree) (good : Sound tree) (moment : Moment) (soon : SoundTime m
       let free = least_is_free target.directory.body slot found in
       record {
         small = free.1;
-        near = least_is_near target.directory.body slot target_sound.body free.1 found;
+        within_span = least_is_within_span target.directory.body slot target_sound.body free.1 found;
         taken = λ name other there same_slot. absurd (free.0 name other there same_slot);
       }
 
   slot_so : Slot
   slot_so =
-      slot_by (nat_eq source.number target.number) (entry_at source.directory.body source.name)
-      (entry_at target.directory.body target.name) refl refl refl d.slot_is
+      slot_by (nat_eq source.number target.number) (dirent_at source.directory.body source.name)
+      (dirent_at target.directory.body target.name) refl refl refl d.slot_is
 
-  free_in : (c : Clear) → FreeSlot c.directory.body slot
-  free_in c name entry is same_slot =
-      elim (slot_so.taken name entry (c.before name entry is) same_slot) [
+  free_in : (c : TargetFreed) → FreeSlot c.directory.body slot
+  free_in c name dirent is same_slot =
+      elim (slot_so.taken name dirent (c.before name dirent is) same_slot) [
         | inl same_name ↦
-            let there = ap (entry_at c.directory.body) (sym same_name) ∙ is in
-            let never : None ≡ Some entry = sym c.absent ∙ there in cc
+            let there = ap (dirent_at c.directory.body) (sym same_name) ∙ is in
+            let never : None ≡ Some dirent = sym c.absent ∙ there in cc
         | inr within ↦
-            let there = ap (entry_at c.directory.body) (sym within.1) ∙ is in
-            let never : None ≡ Some entry = sym (c.old_gone within.0) ∙ there in cc
+            let there = ap (dirent_at c.directory.body) (sym within.1) ∙ is in
+            let never : None ≡ Some dirent = sym (c.old_gone within.0) ∙ there in cc
       ]
 
   -- The blocks.
 
-  abbrev entry : DirectoryEntry
-  entry = record { number = number; slot = slot }
+  abbrev dirent : DirentValue
+  dirent = record { number = number; slot = slot }
 
   abbrev change : Node → Node
-  change = entered moment target.name entry node.body
+  change = entered moment target.name dirent node.body
 
   abbrev next : Tree
-  next = (with_moved tree moment number node source target (file_in tree target) entry).next
+  next = (with_moved tree moment number node source target (file_in tree target) dirent).next
 
-  pub move_needs : need tree next ≡ adds (with_entry target.name entry target.directory.body) target.directory.body
+  pub move_needs : need tree next ≡ adds (with_dirent target.name dirent target.directory.body) target.directory.body
   move_needs =
       let c = cleared in
       let middle = with_node c.tree_is target.number (change c.directory) in
@@ -629,16 +629,16 @@ module _ (tree : Tree) (good : Sound tree) (moment : Moment) (soon : SoundTime m
       let same = same_cost target.number node.body in
       let none = c.unneeded in
       let cost_is = c.cost_is in
-      let more_is = c.more_is target.name entry in
+      let more_is = c.more_is target.name dirent in
       let sum = ap (need tree) leads in
       let before = at_target in
       omega (arith, one, two, at_number, same, none, cost_is, more_is, sum, before)
 
   -- The whole.
 
-  module _ (room : adds (with_entry target.name entry target.directory.body) target.directory.body ≤ free tree)
-      (c : Clear) where
-    enters : CanEnter c.tree_is c.directory.body target.name entry
+  module _ (has_space : adds (with_dirent target.name dirent target.directory.body) target.directory.body ≤ free tree)
+      (c : TargetFreed) where
+    enters : CanEnter c.tree_is c.directory.body target.name dirent
     enters =
         let most = (good.files number node named.stands).most in
         record {
@@ -647,25 +647,25 @@ module _ (tree : Tree) (good : Sound tree) (moment : Moment) (soon : SoundTime m
           some = number_is_some;
           within = subst (λ g. number < g.inodes) (sym c.geometry) most;
           slot = slot_so.small;
-          near = let wide = same_span c.directory.body target.directory.body c.kind d.placed.directory_is c.cost_is in
-              let low = slot_so.near in omega (arith, low, wide);
+          within_span = let wide = same_span c.directory.body target.directory.body c.kind d.placed.directory_is c.cost_is in
+              let low = slot_so.within_span in omega (arith, low, wide);
           own = inl (c.absent, slot_untaken c.directory.body slot (free_in c));
         }
 
-    enough_left : adds (with_entry target.name entry c.directory.body) c.directory.body ≤ free c.tree_is
+    enough_left : adds (with_dirent target.name dirent c.directory.body) c.directory.body ≤ free c.tree_is
     enough_left =
         let uses = used_within tree c.tree_is in
         let none = c.unneeded in
         let same = ap (λ g. g.data_blocks) c.geometry in
         let cost_is = c.cost_is in
-        let more_is = c.more_is target.name entry in
-        omega (arith, room, uses, none, same, cost_is, more_is)
+        let more_is = c.more_is target.name dirent in
+        omega (arith, has_space, uses, none, same, cost_is, more_is)
 
-    places : CanPlace c.tree_is moment target.number target.name number node.body slot
+    places : CanLinkRenamed c.tree_is moment target.number target.name number node.body slot
     places = record {
-      enters = can_enter_at c.tree_is target.number c.directory c.is moment target.name entry node.body
+      enters = can_enter_at c.tree_is target.number c.directory c.is moment target.name dirent node.body
           (subst (λ g. IsShaped g.inodes (change c.directory)) (sym c.geometry)
-          (shaped_entered tree.geometry.inodes moment target.name entry node.body c.directory c.shaped soon c.few))
+          (shaped_entered tree.geometry.inodes moment target.name dirent node.body c.directory c.shaped soon c.few))
           enters enough_left;
       settles = λ n is.
           let one : Some node ≡ Some n =
@@ -689,12 +689,12 @@ module _ (tree : Tree) (good : Sound tree) (moment : Moment) (soon : SoundTime m
       replaces = subst (λ s. CanReplace s moment target.number target.name number node.body (file_in tree target) slot)
           (sym left_is) (record {
             takes = c.takes;
-            places = subst (λ s. CanPlace s moment target.number target.name number node.body slot) (sym c.made)
+            places = subst (λ s. CanLinkRenamed s moment target.number target.name number node.body slot) (sym c.made)
                 places;
           });
     }
 
-  pub can_move : adds (with_entry target.name entry target.directory.body) target.directory.body ≤ free tree
+  pub can_move : adds (with_dirent target.name dirent target.directory.body) target.directory.body ≤ free tree
       → CanMove tree moment source.number source.name target.number target.name number node.body
       (file_in tree target) slot
-  can_move room = moves room cleared
+  can_move has_space = moves has_space cleared

@@ -3,22 +3,22 @@ use Rattle.std.proofs.Common.{◌≡◌, ◌≢◌, ℕ, ◌-◌, refl, Bool, tr
 use Rattle.std.proofs.Common.{cond, List, Some, arith}
 use Rattle.nfs_types.specs.declared.ctx.Moment.{Moment}
 use Rattle.nfs_spec.specs.Model.Cost.{cost}
-use Rattle.nfs_spec.specs.Model.Node.{Node, Body, DirectoryEntry, Regular, Directory, Link}
+use Rattle.nfs_spec.specs.Model.Node.{Node, Body, DirentValue, Regular, Directory, Link}
 use Rattle.nfs_spec.specs.Model.Tree.{Tree, cost_at, need, node_at, with_node}
 use Rattle.nfs_spec.proofs.ProceduresLemmas.Lacking.{gone_change, put_change}
-use Rattle.nfs_spec.specs.Procedures.Changes.{is_last_name, unnamed, with_entry, without_entry, without_node}
+use Rattle.nfs_spec.specs.Procedures.Changes.{is_last_name, unnamed, with_dirent, without_dirent, without_node}
 use Rattle.procs_names.proofs.LinksLemmas.Needs.{added, need_put}
 
-pub same_cost_departed : (name : List ℕ) (body : Body) → cost (without_entry name body) ≡ cost body
+pub same_cost_departed : (name : List ℕ) (body : Body) → cost (without_dirent name body) ≡ cost body
 same_cost_departed name (Regular bytes mapped) = refl
 same_cost_departed name (Directory named span parent) = refl
 same_cost_departed name (Link target) = refl
 
-pub same_more_departed : (other : List ℕ) (body : Body) (name : List ℕ) (entry : DirectoryEntry)
-    → cost (with_entry name entry (without_entry other body)) ≡ cost (with_entry name entry body)
-same_more_departed other (Regular bytes mapped) name entry = refl
-same_more_departed other (Directory named span parent) name entry = refl
-same_more_departed other (Link target) name entry = refl
+pub same_more_departed : (other : List ℕ) (body : Body) (name : List ℕ) (dirent : DirentValue)
+    → cost (with_dirent name dirent (without_dirent other body)) ≡ cost (with_dirent name dirent body)
+same_more_departed other (Regular bytes mapped) name dirent = refl
+same_more_departed other (Directory named span parent) name dirent = refl
+same_more_departed other (Link target) name dirent = refl
 
 module _ (tree middle : Tree) (none : need tree middle ≡ 0) (number : ℕ) (old : Node)
     (was : node_at middle number ≡ Some old) where

@@ -5,12 +5,12 @@ use Rattle.nfs_spec.specs.Model.Node.{Node, Body}
 use Rattle.nfs_spec.specs.Model.Tree.{Tree}
 use Rattle.nfs_spec.specs.Procedures.Changes.{changed_at, departed, entered, without_name}
 use Rattle.nfs_spec.specs.Procedures.Rename.{moved}
-use Rattle.procs_files.specs.declared.head.Head.{Head}
+use Rattle.procs_files.specs.declared.inode_attributes.InodeAttributes.{InodeAttributes}
 use Rattle.procs_files.specs.Heads.{is_kind_directory}
 use Rattle.procs_names.specs.Links.Shapes.{CanChange, CanEnterAt, CanTake}
 
 -- the number of the directory above a file whose parent is this, if it is a directory
-abbrev pub above : Head → ℕ → ℕ
+abbrev pub above : InodeAttributes → ℕ → ℕ
 above file parent = cond (is_kind_directory file.kind) parent file.parent
 
 -- the file has its new name
@@ -24,7 +24,7 @@ placed_tree tree moment target new_name number body slot =
     changed_at (named_tree tree moment target new_name number body slot) number (moved moment target)
 
 -- the file can enter its new place
-pub record CanPlace (tree : Tree) (moment : Moment) (target : ℕ) (new_name : List ℕ) (number : ℕ) (body : Body)
+pub record CanLinkRenamed (tree : Tree) (moment : Moment) (target : ℕ) (new_name : List ℕ) (number : ℕ) (body : Body)
     (slot : ℕ) : Type 0 where
   pub enters : CanEnterAt tree moment target new_name (record { number = number; slot = slot }) body
   pub settles : CanChange (named_tree tree moment target new_name number body slot) number (moved moment target)
@@ -33,7 +33,7 @@ pub record CanPlace (tree : Tree) (moment : Moment) (target : ℕ) (new_name : L
 pub record CanReplace (tree : Tree) (moment : Moment) (target : ℕ) (new_name : List ℕ) (number : ℕ) (body : Body)
     (replaced : Option (ℕ × Node)) (slot : ℕ) : Type 0 where
   pub takes : (other : ℕ × Node) → replaced ≡ Some other → CanTake tree moment target new_name other.0 other.1
-  pub places : CanPlace (without_name tree moment target new_name replaced) moment target new_name number body slot
+  pub places : CanLinkRenamed (without_name tree moment target new_name replaced) moment target new_name number body slot
 
 -- the file has left its place
 abbrev pub left_tree : Tree → Moment → ℕ → List ℕ → Body → Tree

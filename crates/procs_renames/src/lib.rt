@@ -2,14 +2,14 @@
 #![tactic(auto)]
 
 mod ancestors;
-mod moving;
+mod moves;
 mod places;
 mod refusals;
-mod renaming;
+mod renames;
 mod slots;
 
 pub use ancestors::is_within;
-pub use moving::move_file;
-pub use places::{places_refusal, sought_file};
+pub use moves::move_file;
+pub use places::{places_refusal, source_file};
 pub use refusals::{is_named, move_refusal};
-pub use renaming::{RenameTold, rename};
+pub use renames::{RenameReplyParts, rename};

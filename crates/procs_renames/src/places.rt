@@ -4,15 +4,22 @@ ghost use Rattle.nfs_spec.specs.Model.Node.{Body};
 ghost use Rattle.nfs_spec.specs.Model.SetAttr.{first_of_tests};
 ghost use Rattle.nfs_spec.specs.Model.Tree.{Tree};
 ghost use Rattle.procs_files.specs.Heads.{IsFileIn, bare, barely, first_of};
-ghost use Rattle.procs_renames.specs.Moves.{IsSoughtFile, place_of};
+ghost use Rattle.procs_renames.specs.Moves.{IsSourceFile, dentry_of};
 ghost use Rattle.nfs_spec.specs.Procedures.Rename.{path_tests, right_tests};
 
 use base::NAME_BYTES;
 use nfs_types::{Credential, FileKind, Status};
-use procs_files::{Files, Head, first_of, is_no_name, is_own_name, may_change, named_file};
+use procs_files::{
+    Files, InodeAttributes, first_of, is_no_name, is_own_name, may_change, named_file,
+};
 
 // The tests of both directories and of both names.
-fn path_refusal(source: &Head, name: &[u8], target: &Head, new_name: &[u8]) -> Option<Status>
+fn path_refusal(
+    source: &InodeAttributes,
+    name: &[u8],
+    target: &InodeAttributes,
+    new_name: &[u8],
+) -> Option<Status>
     ensures { result ≡ first_of_tests (path_tests (bare source.now) name.now (bare target.now)
         new_name.now) }
 {
@@ -36,11 +43,11 @@ fn path_refusal(source: &Head, name: &[u8], target: &Head, new_name: &[u8]) -> O
 // The tests of what the caller may do in both directories, and of what the first name leads to.
 fn right_refusal(
     caller: &Credential,
-    source: &Head,
+    source: &InodeAttributes,
     name: &[u8],
-    target: &Head,
+    target: &InodeAttributes,
     new_name: &[u8],
-    file: &Option<Head>,
+    file: &Option<InodeAttributes>,
 ) -> Option<Status>
     ensures { result ≡ first_of_tests (right_tests caller.now (bare source.now) name.now (bare target.now)
         new_name.now (barely file.now)) }
@@ -61,11 +68,11 @@ fn right_refusal(
 /// Why what the names lead to isn't looked at; the file is what the first of them leads to.
 pub fn places_refusal(
     caller: &Credential,
-    source: &Head,
+    source: &InodeAttributes,
     name: &[u8],
-    target: &Head,
+    target: &InodeAttributes,
     new_name: &[u8],
-    file: &Option<Head>,
+    file: &Option<InodeAttributes>,
 ) -> Option<Status>
     ensures { result ≡ first_of
         (first_of_tests (path_tests (bare source.now) name.now (bare target.now) new_name.now))
@@ -79,21 +86,21 @@ pub fn places_refusal(
 }
 
 /// The file that the first name leads to, where no test of the two places refuses the call.
-pub fn sought_file<F: Files>(
+pub fn source_file<F: Files>(
     files: &F,
     caller: &Credential,
-    source: &Head,
+    source: &InodeAttributes,
     name: &[u8],
-    target: &Head,
+    target: &InodeAttributes,
     new_name: &[u8],
-) -> Result<Result<Head, Status>, F::Stop>
-    ensures err { IfErr result (λ stop. F.may_stop (F.source files.now) stop) }
-    ensures pause { IfErr result (λ stop. (world : F.World) (tree : Tree) → F.stands files.now world tree
-        → F.is_pause stop) }
-    ensures ok { IfOk result (λ sought. (world : F.World) (tree : Tree) (body other : Body)
+) -> Result<Result<InodeAttributes, Status>, F::Suspend>
+    ensures err { IfErr result (λ suspend. F.may_suspend (F.source files.now) suspend) }
+    ensures resumable { IfErr result (λ suspend. (world : F.World) (tree : Tree) → F.stands files.now world tree
+        → F.is_resumable suspend) }
+    ensures ok { IfOk result (λ source_found. (world : F.World) (tree : Tree) (body other : Body)
         → F.stands files.now world tree → IsFileIn tree source.now body → IsFileIn tree target.now other
-        → IsSoughtFile tree caller.now (place_of source.now body name.now)
-        (place_of target.now other new_name.now) sought) }
+        → IsSourceFile tree caller.now (dentry_of source.now body name.now)
+        (dentry_of target.now other new_name.now) source_found) }
 {
     let found = named_file(files, source, name)?;
     match places_refusal(caller, source, name, target, new_name, &found) {

@@ -13,10 +13,10 @@ ghost use Rattle.nfs_spec.specs.Procedures.Rename.{has_no_link, move_tests};
 use crate::ancestors::is_within;
 use base::MOST_LINKS;
 use nfs_types::{FileKind, Status};
-use procs_files::{ChangingFiles, Files, Head};
+use procs_files::{Files, InodeAttributes, WritableFiles};
 
 /// Whether a name leads to the file already.
-pub fn is_named(file: &Head, other: &Option<Head>) -> bool
+pub fn is_named(file: &InodeAttributes, other: &Option<InodeAttributes>) -> bool
     ensures { result ≡ given (barely other.now) (λ found. nat_eq found.0 file.now.number) }
 {
     match other {
@@ -25,14 +25,14 @@ pub fn is_named(file: &Head, other: &Option<Head>) -> bool
     }
 }
 
-fn is_directory(file: &Head) -> bool
+fn is_directory(file: &InodeAttributes) -> bool
     ensures { result ≡ is_directory (bare file.now).body }
 {
     matches!(file.kind, FileKind::Directory)
 }
 
 // What would be replaced is a directory and the file is none, or the other way round.
-fn is_other_sort(file: &Head, replaced: &Option<Head>) -> bool
+fn is_other_sort(file: &InodeAttributes, replaced: &Option<InodeAttributes>) -> bool
     ensures { result ≡ is_other_sort (bare file.now) (barely replaced.now) }
 {
     match replaced {
@@ -41,7 +41,12 @@ fn is_other_sort(file: &Head, replaced: &Option<Head>) -> bool
     }
 }
 
-fn has_no_link(source: u32, file: &Head, target: &Head, replaced: &Option<Head>) -> bool
+fn has_no_link(
+    source: u32,
+    file: &InodeAttributes,
+    target: &InodeAttributes,
+    replaced: &Option<InodeAttributes>,
+) -> bool
     ensures { result ≡ has_no_link (bare file.now) source (target.now.number, bare target.now)
         (barely replaced.now) }
 {
@@ -52,10 +57,13 @@ fn has_no_link(source: u32, file: &Head, target: &Head, replaced: &Option<Head>)
 }
 
 // Some name lies in what would be replaced.
-fn is_filled<F: ChangingFiles>(files: &F, replaced: &Option<Head>) -> Result<bool, F::Stop>
-    ensures err { IfErr result (λ stop. F.may_stop (F.source files.now) stop) }
-    ensures pause { IfErr result (λ stop. (world : F.World) (tree : Tree) → F.stands files.now world tree
-        → F.is_pause stop) }
+fn is_filled<F: WritableFiles>(
+    files: &F,
+    replaced: &Option<InodeAttributes>,
+) -> Result<bool, F::Suspend>
+    ensures err { IfErr result (λ suspend. F.may_suspend (F.source files.now) suspend) }
+    ensures resumable { IfErr result (λ suspend. (world : F.World) (tree : Tree) → F.stands files.now world tree
+        → F.is_resumable suspend) }
     ensures ok { IfOk result (λ filled. (world : F.World) (tree : Tree) (found : Option (ℕ × Node))
         → F.stands files.now world tree → IsFound tree found replaced.now → filled ≡ is_found_filled found) }
 {
@@ -66,10 +74,10 @@ fn is_filled<F: ChangingFiles>(files: &F, replaced: &Option<Head>) -> Result<boo
 }
 
 // A directory would become its own ancestor.
-fn goes_below<F: Files>(files: &F, file: &Head, target: u32) -> Result<bool, F::Stop>
-    ensures err { IfErr result (λ stop. F.may_stop (F.source files.now) stop) }
-    ensures pause { IfErr result (λ stop. (world : F.World) (tree : Tree) → F.stands files.now world tree
-        → F.is_pause stop) }
+fn goes_below<F: Files>(files: &F, file: &InodeAttributes, target: u32) -> Result<bool, F::Suspend>
+    ensures err { IfErr result (λ suspend. F.may_suspend (F.source files.now) suspend) }
+    ensures resumable { IfErr result (λ suspend. (world : F.World) (tree : Tree) → F.stands files.now world tree
+        → F.is_resumable suspend) }
     ensures ok { IfOk result (λ below. (world : F.World) (tree : Tree) (body : Body)
         → F.stands files.now world tree → IsFileIn tree file.now body
         → below ≡ (is_directory body && is_within tree file.now.number target)) }
@@ -98,16 +106,16 @@ fn first_refusal(below: bool, other: bool, filled: bool, full: bool) -> Option<S
 }
 
 /// Why a file doesn't go from one directory to another, or within one.
-pub fn move_refusal<F: ChangingFiles>(
+pub fn move_refusal<F: WritableFiles>(
     files: &F,
     source: u32,
-    file: &Head,
-    target: &Head,
-    replaced: &Option<Head>,
-) -> Result<Option<Status>, F::Stop>
-    ensures err { IfErr result (λ stop. F.may_stop (F.source files.now) stop) }
-    ensures pause { IfErr result (λ stop. (world : F.World) (tree : Tree) → F.stands files.now world tree
-        → F.is_pause stop) }
+    file: &InodeAttributes,
+    target: &InodeAttributes,
+    replaced: &Option<InodeAttributes>,
+) -> Result<Option<Status>, F::Suspend>
+    ensures err { IfErr result (λ suspend. F.may_suspend (F.source files.now) suspend) }
+    ensures resumable { IfErr result (λ suspend. (world : F.World) (tree : Tree) → F.stands files.now world tree
+        → F.is_resumable suspend) }
     ensures ok { IfOk result (λ refusal. (world : F.World) (tree : Tree) (body goal : Body)
         (found : Option (ℕ × Node)) → F.stands files.now world tree → IsFileIn tree file.now body
         → IsFileIn tree target.now goal → IsFound tree found replaced.now

@@ -1,13 +1,13 @@
 //! The procedures that make files, over any files.
 
-mod adding;
-mod blanks;
-mod creating;
+mod blank_files;
+mod creation;
 mod directories;
-mod existing;
-mod making;
+mod existing_file;
+mod new_file;
+mod new_names;
 mod symbolic;
 
-pub use creating::create;
+pub use creation::create;
 pub use directories::make_directory;
 pub use symbolic::make_link;

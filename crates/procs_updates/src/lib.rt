@@ -6,6 +6,6 @@ mod writes;
 
 pub use creates::{create, make_directory, make_link};
 pub use writes::{
-    Done, changed, refused, set_attributes, set_file, set_head, set_refusal, touched_head, unfound,
-    write,
+    Done, changed, refused, set_attributes, set_file, set_inode_attributes, set_refusal,
+    touched_inode_attributes, unfound, write,
 };

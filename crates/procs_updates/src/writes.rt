@@ -1,14 +1,14 @@
 //! The procedures that change one file, over any files: SETATTR and WRITE.
 
 mod attributes;
+mod data_writes;
 mod done;
 mod refusals;
-mod setting;
+mod set_attr;
 mod texts;
-mod writing;
 
-pub use attributes::{set_head, touched_head};
+pub use attributes::{set_inode_attributes, touched_inode_attributes};
+pub use data_writes::write;
 pub use done::{Done, changed, refused, unfound};
 pub use refusals::set_refusal;
-pub use setting::{set_attributes, set_file};
-pub use writing::write;
+pub use set_attr::{set_attributes, set_file};

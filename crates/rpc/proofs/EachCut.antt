@@ -18,18 +18,18 @@ use Rattle.rpc.proofs.Marks.{marks}
 use Rattle.rpc.proofs.RecordLaws.{cons_parts, cons_length, fragment-length, one_cut, rest_is_rest}
 
 -- what stands at the front of a stream, behind fragments of so many bytes
-data Front (k : ℕ) (bytes : List ℕ) : Type 0 where
+data StreamBeginning (k : ℕ) (bytes : List ℕ) : Type 0 where
   Whole : (parts : List (List ℕ)) (last more : List ℕ) → k + length (joined parts) + length last ≤ RECORD_BYTES
-      → AreBytes more → bytes ≡ flat_map (fragment false) parts ++ (fragment true last ++ more) → Front k bytes
+      → AreBytes more → bytes ≡ flat_map (fragment false) parts ++ (fragment true last ++ more) → StreamBeginning k bytes
   Before : (parts : List (List ℕ)) (some : List ℕ) → k + length (joined parts) ≤ RECORD_BYTES → length some < 4
-      → bytes ≡ flat_map (fragment false) parts ++ some → Front k bytes
+      → bytes ≡ flat_map (fragment false) parts ++ some → StreamBeginning k bytes
   Within : (parts : List (List ℕ)) (last : Bool) (announced : ℕ) (some : List ℕ)
       → k + length (joined parts) + announced ≤ RECORD_BYTES → length some < announced
-      → bytes ≡ flat_map (fragment false) parts ++ (mark last announced ++ some) → Front k bytes
+      → bytes ≡ flat_map (fragment false) parts ++ (mark last announced ++ some) → StreamBeginning k bytes
   Long : (parts : List (List ℕ)) (last : Bool) (announced : ℕ) (more : List ℕ)
       → AllByRecursion (λ part. length part < 2 ^ 31) parts → announced < 2 ^ 31
       → RECORD_BYTES < k + length (joined parts) + announced
-      → bytes ≡ flat_map (fragment false) parts ++ (mark last announced ++ more) → Front k bytes
+      → bytes ≡ flat_map (fragment false) parts ++ (mark last announced ++ more) → StreamBeginning k bytes
 
 -- one more fragment before it
 behind : (p : List ℕ) (ps : List (List ℕ)) (bytes more t : List ℕ) → bytes ≡ fragment false p ++ more
@@ -37,7 +37,7 @@ behind : (p : List ℕ) (ps : List (List ℕ)) (bytes more t : List ℕ) → byt
 behind p ps bytes more t e f = e ∙ ap (λ (x : List ℕ). fragment false p ++ x) f ∙ sym (cons_parts p ps t)
 
 one_more : (k : ℕ) (p bytes more : List ℕ) → length p < 2 ^ 31 → bytes ≡ fragment false p ++ more
-    → Front (k + length p) more → Front k bytes
+    → StreamBeginning (k + length p) more → StreamBeginning k bytes
 one_more k p bytes more small e (Whole ps last others fits are cut) =
     Whole (p ∷ ps) last others (omega (arith, fits, cons_length p ps)) are
     (behind p ps bytes more (fragment true last ++ others) e cut)
@@ -87,14 +87,14 @@ fragment_there bytes m there =
 
 last_or_more : (k : ℕ) (bytes : List ℕ) (last : Bool) (p more : List ℕ) → k + length p ≤ RECORD_BYTES
     → AreBytes more
-    → bytes ≡ fragment last p ++ more → ((le : k + length p ≤ RECORD_BYTES) → Front (k + length p) more)
-    → Front k bytes
+    → bytes ≡ fragment last p ++ more → ((le : k + length p ≤ RECORD_BYTES) → StreamBeginning (k + length p) more)
+    → StreamBeginning k bytes
 last_or_more k bytes true p more le are e go = Whole [] p more (omega (arith, le)) are e
 last_or_more k bytes false p more le are e go = one_more k p bytes more (omega (arith, le)) e (go le)
 
 at_mark : (k : ℕ) (bytes : List ℕ) → k ≤ RECORD_BYTES → AreBytes bytes
-    → ((n : ℕ) (more : List ℕ) → length more < length bytes → n ≤ RECORD_BYTES → AreBytes more → Front n more)
-    → Marked bytes → Front k bytes
+    → ((n : ℕ) (more : List ℕ) → length more < length bytes → n ≤ RECORD_BYTES → AreBytes more → StreamBeginning n more)
+    → Marked bytes → StreamBeginning k bytes
 at_mark k bytes le are go m =
     let rest = drop 4 bytes in
     let p = take m.announced rest in
@@ -120,19 +120,19 @@ at_mark k bytes le are go m =
 
 -- what stands there, where what stands behind the first fragment is known
 step : (k : ℕ) (bytes : List ℕ) → k ≤ RECORD_BYTES → AreBytes bytes
-    → ((n : ℕ) (more : List ℕ) → length more < length bytes → n ≤ RECORD_BYTES → AreBytes more → Front n more)
-    → Front k bytes
+    → ((n : ℕ) (more : List ℕ) → length more < length bytes → n ≤ RECORD_BYTES → AreBytes more → StreamBeginning n more)
+    → StreamBeginning k bytes
 step k bytes le are go =
     elim (cases_lt (length bytes) 4) [
       | inl few ↦ Before [] bytes (omega (arith, le)) few refl
       | inr whole ↦ at_mark k bytes le are go (marked bytes are whole)
     ]
 
-front : (fuel k : ℕ) (bytes : List ℕ) → length bytes ≤ fuel → k ≤ RECORD_BYTES → AreBytes bytes → Front k bytes
-front zero k bytes short le are = step k bytes le are
+leading : (fuel k : ℕ) (bytes : List ℕ) → length bytes ≤ fuel → k ≤ RECORD_BYTES → AreBytes bytes → StreamBeginning k bytes
+leading zero k bytes short le are = step k bytes le are
     (λ n more less fits bytes_are. absurd (omega (arith, short, less)))
-front (suc fuel) k bytes short le are =
-    step k bytes le are (λ n more less fits bytes_are. front fuel n more (omega (arith, short, less))
+leading (suc fuel) k bytes short le are =
+    step k bytes le are (λ n more less fits bytes_are. leading fuel n more (omega (arith, short, less))
     fits bytes_are)
 
 -- ---- the cut
@@ -169,7 +169,7 @@ part_rest (b ∷ bs) part = inr (inl (record { some = omega arith; part = part }
 flat : (a b : List ℕ) (bytes c : List ℕ) → bytes ≡ a ++ (b ++ c) → bytes ≡ a ++ b ++ c
 flat a b bytes c e = e ∙ sym (append_assoc a b c)
 
-cut_step : (bytes : List ℕ) → Front 0 bytes
+cut_step : (bytes : List ℕ) → StreamBeginning 0 bytes
     → ((more : List ℕ) → length more < length bytes → AreBytes more → Cut more) → Cut bytes
 cut_step bytes (Whole ps last more fits are cut) go =
     let r = record_of bytes more last ps (omega (arith, fits)) cut in
@@ -206,10 +206,10 @@ cut_step bytes (Long ps l n more each fits long cut) go =
 
 cuts : (fuel : ℕ) (bytes : List ℕ) → length bytes ≤ fuel → AreBytes bytes → Cut bytes
 cuts zero bytes short are =
-    cut_step bytes (front (length bytes) 0 bytes (omega arith) (omega arith) are)
+    cut_step bytes (leading (length bytes) 0 bytes (omega arith) (omega arith) are)
     (λ more less more_are. absurd (omega (arith, short, less)))
 cuts (suc fuel) bytes short are =
-    cut_step bytes (front (length bytes) 0 bytes (omega arith) (omega arith) are)
+    cut_step bytes (leading (length bytes) 0 bytes (omega arith) (omega arith) are)
     (λ more less more_are. cuts fuel more (omega (arith, short, less)) more_are)
 
 pub each_cut : (bytes : List ℕ) → AreBytes bytes → (list : List (List ℕ)) × (rest : List ℕ)

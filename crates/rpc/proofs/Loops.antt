@@ -8,44 +8,44 @@ use Rattle.xdr.specs.Reading.{◌>>=◌, number_at}
 use Rattle.rpc.specs.Credentials.{numbers_at}
 
 -- what was read before, and what is still read
-abbrev pub with_front : List ℕ → Result (List ℕ × List ℕ) XdrFault → Result (List ℕ × List ℕ) XdrFault
-with_front front read = read >>= λ x. Ok (front ++ x.0, x.1)
+abbrev pub with_leading : List ℕ → Result (List ℕ × List ℕ) XdrFault → Result (List ℕ × List ℕ) XdrFault
+with_leading leading read = read >>= λ x. Ok (leading ++ x.0, x.1)
 
-regroup : (front : List ℕ) (n : ℕ) (read : Result (List ℕ × List ℕ) XdrFault)
-    → with_front front (read >>= λ x. Ok (n ∷ x.0, x.1)) ≡ with_front (front ++ n ∷ []) read
-regroup front n (Ok x) = ap (λ (ns : List ℕ). Ok (ns, x.1)) (simp append_assoc)
-regroup front n (Err f) = refl
+regroup : (leading : List ℕ) (n : ℕ) (read : Result (List ℕ × List ℕ) XdrFault)
+    → with_leading leading (read >>= λ x. Ok (n ∷ x.0, x.1)) ≡ with_leading (leading ++ n ∷ []) read
+regroup leading n (Ok x) = ap (λ (ns : List ℕ). Ok (ns, x.1)) (simp append_assoc)
+regroup leading n (Err f) = refl
 
-pub begins : (total : Result (List ℕ × List ℕ) XdrFault) → with_front [] total ≡ total
+pub begins : (total : Result (List ℕ × List ℕ) XdrFault) → with_leading [] total ≡ total
 begins (Ok x) = refl
 begins (Err e) = refl
 
-pub goes_on : (front : List ℕ) (count i : ℕ) (bytes : List ℕ) (n : ℕ) (after : List ℕ)
+pub goes_on : (leading : List ℕ) (count i : ℕ) (bytes : List ℕ) (n : ℕ) (after : List ℕ)
     (total : Result (List ℕ × List ℕ) XdrFault) → i < count → number_at w32 bytes ≡ Ok (n, after)
-    → with_front front (numbers_at (count - i) bytes) ≡ total
-    → with_front (front ++ n ∷ []) (numbers_at (count - (i + 1)) after) ≡ total
+    → with_leading leading (numbers_at (count - i) bytes) ≡ total
+    → with_leading (leading ++ n ∷ []) (numbers_at (count - (i + 1)) after) ≡ total
 unfolding numbers_at
-goes_on front count i bytes n after total lt h so_far =
+goes_on leading count i bytes n after total lt h so_far =
     let k : count - i ≡ suc (count - (i + 1)) = omega arith in
-    let one : with_front front (numbers_at (count - i) bytes)
-    ≡ with_front (front ++ n ∷ []) (numbers_at (count - (i + 1)) after) =
-    rw (k, h) (regroup front n (numbers_at (count - (i + 1)) after)) in
+    let one : with_leading leading (numbers_at (count - i) bytes)
+    ≡ with_leading (leading ++ n ∷ []) (numbers_at (count - (i + 1)) after) =
+    rw (k, h) (regroup leading n (numbers_at (count - (i + 1)) after)) in
     sym one ∙ so_far
 
-pub ends : (e : XdrFault) (front : List ℕ) (count i : ℕ) (bytes : List ℕ)
+pub ends : (e : XdrFault) (leading : List ℕ) (count i : ℕ) (bytes : List ℕ)
     (total : Result (List ℕ × List ℕ) XdrFault) → i < count → number_at w32 bytes ≡ Err e
-    → with_front front (numbers_at (count - i) bytes) ≡ total → total ≡ Err e
+    → with_leading leading (numbers_at (count - i) bytes) ≡ total → total ≡ Err e
 unfolding numbers_at
-ends e front count i bytes total lt h so_far =
+ends e leading count i bytes total lt h so_far =
     let k : count - i ≡ suc (count - (i + 1)) = omega arith in
-    let one : with_front front (numbers_at (count - i) bytes) ≡ Err e = rw (k, h) refl in
+    let one : with_leading leading (numbers_at (count - i) bytes) ≡ Err e = rw (k, h) refl in
     sym so_far ∙ one
 
-pub is_done : (front : List ℕ) (count i : ℕ) (bytes : List ℕ) (total : Result (List ℕ × List ℕ) XdrFault)
-    → count ≤ i → with_front front (numbers_at (count - i) bytes) ≡ total → total ≡ Ok (front, bytes)
+pub is_done : (leading : List ℕ) (count i : ℕ) (bytes : List ℕ) (total : Result (List ℕ × List ℕ) XdrFault)
+    → count ≤ i → with_leading leading (numbers_at (count - i) bytes) ≡ total → total ≡ Ok (leading, bytes)
 unfolding numbers_at
-is_done front count i bytes total le so_far =
+is_done leading count i bytes total le so_far =
     let k : count - i ≡ 0 = omega arith in
-    let one : with_front front (numbers_at (count - i) bytes) ≡ Ok (front, bytes) =
-    rw k (ap (λ (ns : List ℕ). Ok (ns, bytes)) (append-nil front)) in
+    let one : with_leading leading (numbers_at (count - i) bytes) ≡ Ok (leading, bytes) =
+    rw k (ap (λ (ns : List ℕ). Ok (ns, bytes)) (append-nil leading)) in
     sym so_far ∙ one

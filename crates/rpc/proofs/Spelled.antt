@@ -29,18 +29,18 @@ four_read a b c d rest =
     rw long refl
 
 -- so many whole numbers, and what is behind them
-pub read_split : (n : ℕ) (front rest : List ℕ) → length front ≡ 4 * n
-    → (numbers_at n (front ++ rest) ≡ Ok (numbers_in front, rest)) × (length (numbers_in front) ≡ n)
+pub read_split : (n : ℕ) (leading rest : List ℕ) → length leading ≡ 4 * n
+    → (numbers_at n (leading ++ rest) ≡ Ok (numbers_in leading, rest)) × (length (numbers_in leading) ≡ n)
 unfolding numbers_at numbers_in
 read_split zero [] rest is = (refl, refl)
-read_split zero (a ∷ front) rest is = absurd (omega (arith, is))
+read_split zero (a ∷ leading) rest is = absurd (omega (arith, is))
 read_split (suc n) [] rest is = absurd (omega (arith, is))
 read_split (suc n) (a ∷ []) rest is = absurd (omega (arith, is))
 read_split (suc n) (a ∷ b ∷ []) rest is = absurd (omega (arith, is))
 read_split (suc n) (a ∷ b ∷ c ∷ []) rest is = absurd (omega (arith, is))
-read_split (suc n) (a ∷ b ∷ c ∷ d ∷ front) rest is =
-    let others = read_split n front rest (omega (arith, is)) in
-    (rw (four_read a b c d (front ++ rest), others.0) refl, ap suc others.1)
+read_split (suc n) (a ∷ b ∷ c ∷ d ∷ leading) rest is =
+    let others = read_split n leading rest (omega (arith, is)) in
+    (rw (four_read a b c d (leading ++ rest), others.0) refl, ap suc others.1)
 
 -- with fewer bytes the first number that lacks some is refused
 pub read_short : (n : ℕ) (bytes : List ℕ) → length bytes < 4 * n → numbers_at n bytes ≡ Err Short
@@ -62,13 +62,13 @@ are_groups count bytes long few =
     record { whole = omega (arith, long, many); few = omega (arith, few, many) }
 
 -- the groups behind their count, in a front of what is there
-pub gids_are : (count : ℕ) (bytes rest front behind : List ℕ) → number_at w32 bytes ≡ Ok (count, rest)
-    → count ≤ MOST_GIDS → rest ≡ front ++ behind → length front ≡ 4 * count
-    → gids_at bytes ≡ Ok (numbers_in front, behind)
+pub gids_are : (count : ℕ) (bytes rest leading behind : List ℕ) → number_at w32 bytes ≡ Ok (count, rest)
+    → count ≤ MOST_GIDS → rest ≡ leading ++ behind → length leading ≡ 4 * count
+    → gids_at bytes ≡ Ok (numbers_in leading, behind)
 unfolding gids_at
-gids_are count bytes rest front behind read few cut long =
+gids_are count bytes rest leading behind read few cut long =
     let lawful : nat_lt MOST_GIDS count ≡ false = le-ltb _ _ few in
-    rw (read, lawful, cut) ((read_split count front behind long).0)
+    rw (read, lawful, cut) ((read_split count leading behind long).0)
 
 pub gids_short : (count : ℕ) (bytes rest : List ℕ) → number_at w32 bytes ≡ Ok (count, rest)
     → count ≤ MOST_GIDS → length rest < 4 * count → gids_at bytes ≡ Err Short

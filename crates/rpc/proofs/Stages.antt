@@ -25,13 +25,13 @@ outside Between taken content out at = at.fragments
 outside (Inside last left) taken content out at = absurd out
 
 -- a mark is taken
-pub marked : (taken content front : List ℕ) (last : Bool) (n : ℕ) → AreFragments taken content
-    → front ≡ mark last n → length content + n ≤ RECORD_BYTES → IsInside last n (taken ++ front) content
-marked taken content front last n at is fits =
+pub marked : (taken content leading : List ℕ) (last : Bool) (n : ℕ) → AreFragments taken content
+    → leading ≡ mark last n → length content + n ≤ RECORD_BYTES → IsInside last n (taken ++ leading) content
+marked taken content leading last n at is fits =
     record {
       parts = at.parts;
       come = [];
-      taken_is = ap (λ (t : List ℕ). t ++ front) at.taken_is
+      taken_is = ap (λ (t : List ℕ). t ++ leading) at.taken_is
           ∙ ap (λ (t : List ℕ). flat_map (fragment false) at.parts ++ t) is
           ∙ ap (λ (m : ℕ). flat_map (fragment false) at.parts ++ mark last m) (omega arith)
           ∙ sym (append-nil (flat_map (fragment false) at.parts ++ mark last (length {A = ℕ} [] + n)));
@@ -134,10 +134,10 @@ each_bounded (p ∷ ps) bounded = (
 )
 
 -- the next mark announces too much
-pub too_long : (taken content front behind : List ℕ) (last : Bool) (n : ℕ) → AreFragments taken content
-    → front ≡ mark last n → n < 2 ^ 31 → RECORD_BYTES < length content + n
-    → IsTooLong (taken ++ (front ++ behind))
-too_long taken content front behind last n at is small long =
+pub too_long : (taken content leading behind : List ℕ) (last : Bool) (n : ℕ) → AreFragments taken content
+    → leading ≡ mark last n → n < 2 ^ 31 → RECORD_BYTES < length content + n
+    → IsTooLong (taken ++ (leading ++ behind))
+too_long taken content leading behind last n at is small long =
     record {
       parts = at.parts;
       last = last;
@@ -145,7 +145,7 @@ too_long taken content front behind last n at is small long =
       more = behind;
       parts_marked = each_bounded at.parts (omega (arith, at.bounded, ap length at.content_is));
       marked = small;
-      cut = ap (λ (t : List ℕ). t ++ (front ++ behind)) at.taken_is
+      cut = ap (λ (t : List ℕ). t ++ (leading ++ behind)) at.taken_is
           ∙ ap (λ (t : List ℕ). flat_map (fragment false) at.parts ++ (t ++ behind)) is
           ∙ sym (append_assoc (flat_map (fragment false) at.parts) (mark last n) behind);
       long = omega (arith, long, ap length at.content_is);

@@ -16,8 +16,8 @@ use Rattle.rpc.specs.Records.{mark, fragment, joined, IsPart, IsTooLong, held_of
 -- what was taken off the front of the stream since the last record: of each note, the bytes from some place
 -- on of those that were there, and so many of them
 abbrev pub taken_text : List (Snapshot Filled × (ℕ × ℕ)) → List ℕ
-taken_text notes = flat_map (λ (note : Snapshot Filled × (ℕ × ℕ)). take note.1.1
-    (drop note.1.0 note.0.value.items)) notes
+taken_text traces = flat_map (λ (trace : Snapshot Filled × (ℕ × ℕ)). take trace.1.1
+    (drop trace.1.0 trace.0.value.items)) traces
 
 -- the bytes of the stream that aren't handed out
 abbrev pub text_of : Cutter → List ℕ
@@ -86,17 +86,17 @@ Tells old (Err TooLong) new = IsTooLong (text_of new)
 pub record Advances (old : Cutter) (result : Result Advance RpcFault) (new : Cutter) : Type 0 where
   pub cut : IsCut new
   pub text : text_of new ≡ text_of old
-  pub told : Tells old result new
+  pub tells_stage : Tells old result new
 
 -- what a look at all that is there tells
-abbrev pub Told : Result Bool RpcFault → Cutter → Type 0
-Told (Ok true) new = new.stage ≡ Inside true 0
-Told (Ok false) new = Waiting new
-Told (Err NoMemory) new = Unit {0}
-Told (Err TooLong) new = IsTooLong (text_of new)
+abbrev pub HasScanned : Result Bool RpcFault → Cutter → Type 0
+HasScanned (Ok true) new = new.stage ≡ Inside true 0
+HasScanned (Ok false) new = Waiting new
+HasScanned (Err NoMemory) new = Unit {0}
+HasScanned (Err TooLong) new = IsTooLong (text_of new)
 
 -- what it leaves
 pub record Looks (old : Cutter) (result : Result Bool RpcFault) (new : Cutter) : Type 0 where
   pub cut : IsCut new
   pub text : text_of new ≡ text_of old
-  pub told : Told result new
+  pub tells_stage : HasScanned result new

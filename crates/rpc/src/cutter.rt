@@ -66,9 +66,9 @@ impl Cutter {
         ensures err { OnErr result (text_of self.new ≡ text_of self.old) }
     {
         let count = left.min(piece.len());
-        let (front, rest) = piece.split_at(count);
+        let (leading, rest) = piece.split_at(count);
         self.pending.reserve(rest.len())?;
-        self.take_in(front)?;
+        self.take_in(leading)?;
         self.pending.extend_reserved(rest);
         self.stage = Stage::Inside {
             last,
@@ -78,18 +78,18 @@ impl Cutter {
     }
 
     // Takes bytes that haven't waited, as content of the record, and notes them.
-    fn take_in(&mut self, front: &[u8]) -> Result<(), AllocError>
+    fn take_in(&mut self, leading: &[u8]) -> Result<(), AllocError>
         ensures taken { OnOk result (taken_text self.new.taken.items
-            ≡ taken_text self.old.taken.items ++ front.now) }
-        ensures content { OnOk result (self.new.content.items ≡ self.old.content.items ++ front.now) }
-        ensures kept { OnErr result ((taken_text self.new.taken.items ≡ taken_text self.old.taken.items)
+            ≡ taken_text self.old.taken.items ++ leading.now) }
+        ensures content { OnOk result (self.new.content.items ≡ self.old.content.items ++ leading.now) }
+        ensures is_preserved { OnErr result ((taken_text self.new.taken.items ≡ taken_text self.old.taken.items)
             × (self.new.content.items ≡ self.old.content.items)) }
         ensures pending { self.new.pending ≡ self.old.pending }
         ensures stage { self.new.stage ≡ self.old.stage }
     {
         let before = self.content.len();
-        self.content.extend_from_slice(front)?;
-        let behind = (before, front.len());
+        self.content.extend_from_slice(leading)?;
+        let behind = (before, leading.len());
         self.taken = self.taken.and(&Snapshot::of(&self.content), &behind);
         Ok(())
     }
@@ -106,7 +106,7 @@ impl Cutter {
     }
 
     /// Looks at the bytes that are there, up to the end of a record, and tells whether one is whole.
-    pub fn look(&mut self) -> Result<bool, RpcFault>
+    pub fn scan(&mut self) -> Result<bool, RpcFault>
         requires { IsCut self.old }
         ensures { Looks self.old result self.new }
     {
@@ -188,7 +188,7 @@ impl Cutter {
         ensures content { OnOk result (self.new.content.items
             ≡ self.old.content.items ++ take count self.old.pending.items) }
         ensures err { IfErr result (λ e. e ≡ RpcFault.NoMemory) }
-        ensures kept { OnErr result ((text_of self.new ≡ text_of self.old)
+        ensures is_preserved { OnErr result ((text_of self.new ≡ text_of self.old)
             × (taken_text self.new.taken.items ≡ taken_text self.old.taken.items)
             × (self.new.content.items ≡ self.old.content.items)) }
         ensures stage { self.new.stage ≡ self.old.stage }
@@ -209,8 +209,8 @@ impl Cutter {
         ensures content { self.new.content ≡ self.old.content }
         ensures stage { self.new.stage ≡ self.old.stage }
     {
-        let front = (0, count);
-        self.taken = self.taken.and(&Snapshot::of(&self.pending), &front);
+        let leading = (0, count);
+        self.taken = self.taken.and(&Snapshot::of(&self.pending), &leading);
         self.pending.advance(count);
     }
 

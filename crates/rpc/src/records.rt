@@ -63,7 +63,7 @@ impl Records {
         ensures err { OnErr result (self.new ≡ self.old) }
         ensures too_long { IsErrOf result RpcFault.TooLong → IsTooLong self.old }
     {
-        if self.cutter.look()? {
+        if self.cutter.scan()? {
             return Ok(Some(self.cutter.hand_out()?));
         }
         Ok(None)
@@ -78,7 +78,7 @@ impl Records {
         ensures whole { IfOk result (λ o. IfNone o (BeginsWithRecord self.new)) }
         ensures too_long { IsErrOf result RpcFault.TooLong → IsTooLong self.new }
     {
-        if self.cutter.look()? {
+        if self.cutter.scan()? {
             return Ok(None);
         }
         Ok(Some(self.cutter.held()))

@@ -1,5 +1,6 @@
 //! Replies that have no result (RFC 5531, section 9).
-ghost use Rattle.std.specs.Prelude.{false};
+ghost use Rattle.std.specs.Prelude.{◌++◌, false};
+ghost use Rattle.xdr.specs.Items.{word};
 ghost use Rattle.rpc.specs.Refused.{accepted, denied, refused};
 ghost use Rattle.xdr.specs.Writing.{WritesBytes};
 
@@ -25,6 +26,13 @@ pub fn put_accepted(out: &mut Writer, xid: u32, status: u32) -> Result<(), XdrFa
 {
     out.unsigned(xid)?;
     out.unsigned(REPLY)?;
+    put_acceptance(out, status)
+}
+
+// That it is accepted, a verifier of nobody, and its status.
+fn put_acceptance(out: &mut Writer, status: u32) -> Result<(), XdrFault>
+    ensures { WritesBytes result out.old out.new (word 0 ++ word 0 ++ word 0 ++ word status) false }
+{
     out.unsigned(0)?;
     out.unsigned(0)?;
     out.unsigned(0)?;

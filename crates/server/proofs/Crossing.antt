@@ -14,29 +14,35 @@ use Rattle.crossbeam_channel.proofs.channel.Sender.TheSendSync as sender
 use Rattle.http_server.proofs.log.Log.TheSendSync as logs
 use Rattle.procs.proofs.planner.Planner.TheSendSync as planner
 use Rattle.locks.proofs.table.Table.TheSendSync as table
+use Rattle.objects.proofs.object.Object.TheSendSync as object
 use Rattle.objects.proofs.residency.Residency.TheSendSync as residency
 use Rattle.wal.proofs.memory.Wal.TheSendSync as wal
 use Rattle.disk.specs.declared.Port
 use Rattle.nfs_types.specs.contracts.reply.Reply
 use Rattle.procs.specs.contracts.done.Done
+use Rattle.procs.specs.contracts.done.Done.TheInside as done
 use Rattle.procs.specs.contracts.done.DoneChange.TheImpl as change
+use Rattle.procs.specs.contracts.next.Plan
+use Rattle.procs.specs.contracts.untested_plan.UntestedPlan
+use Rattle.procs.specs.contracts.untested_plan.UntestedPlan.TheInside as untested
+use Rattle.procs.specs.contracts.untested_plan.UntestedPlanParts
 use Rattle.txn.specs.contracts.transactions.Core
 use Rattle.nfs_types.proofs.call.Call.TheSendSync as call
 use Rattle.nfs_types.proofs.ctx.Credential.TheSendSync as credential
 use Rattle.nfs_types.proofs.ctx.Ctx.TheSendSync as ctx
 use Rattle.nfs_types.proofs.reply.Reply.TheSendSync as reply
-use Rattle.store_promise.proofs.aims.Aim.TheSendSync as aim
+use Rattle.store_promise.proofs.lock_requests.LockRequest.TheSendSync as lock_request
 use Rattle.store_promise.proofs.answers.CallAnswer.TheSendSync as given
 use Rattle.store_promise.proofs.answers.Entry.TheSendSync as entry
 use Rattle.txn.proofs.tx.FetchIo.TheSendSync as fetch
 use Rattle.txn.proofs.tx.Tx.TheSendSync as tx
-use Rattle.pool.proofs.told.Told.TheSendSync as told
+use Rattle.pool.proofs.step_result.StepResult.TheSendSync as step_result
 use Rattle.pool.proofs.Caller.TheSendSync as callers
 use Rattle.pool.specs.contracts.Connections
 use Rattle.pool.specs.contracts.IoSeat
 use Rattle.pool.specs.contracts.Job
-use Rattle.pool.specs.contracts.errand.Errand
-use Rattle.pool.specs.contracts.errand.Errand.TheInside as errand
+use Rattle.pool.specs.contracts.in_flight.CallInFlight
+use Rattle.pool.specs.contracts.in_flight.CallInFlight.TheInside as in_flight
 use Rattle.pool.specs.contracts.locked.Locked
 use Rattle.pool.specs.contracts.seat.Seat
 use Rattle.pool.specs.contracts.shared.Shared
@@ -44,6 +50,9 @@ use Rattle.pool.specs.contracts.work.Work
 use Rattle.pool.specs.contracts.work.Work.TheInside as work
 use Rattle.pool.specs.declared.Whole
 use Rattle.store_workers.specs.contracts.workers.Worker
+use Rattle.store_workers.specs.contracts.workers.parts.State
+use Rattle.store_workers.specs.contracts.workers.prepared.Prepared
+use Rattle.store_workers.specs.contracts.workers.prepared.Prepared.TheInside as prepared
 use Rattle.server_connection.specs.contracts.connection.Connection
 use Rattle.server.specs.contracts.state.ServerState
 use Rattle.server.specs.contracts.state.Synchronization
@@ -68,21 +77,62 @@ jobs_sync = struct_sync (Declared.shape Jobs.the_type) (
   (search (job_send, receiver.the_sync, crosses, sendable) depth 60 fits 20000, tt),
 )
 
+parts_send : IsSend UntestedPlanParts.the_row
+parts_send =
+    recorded_send UntestedPlanParts.the_field.row _ _ UntestedPlanParts.the_type.to_one
+    (struct_send (Declared.shape UntestedPlanParts.the_type) (
+      search (crosses, sendable) depth 60 fits 20000,
+      (
+        search (crosses, sendable) depth 60 fits 20000,
+        (
+          reply.the_field_send,
+          (
+            search (object.the_send, crosses, sendable) depth 60 fits 20000,
+            (
+              search (object.the_send, crosses, sendable) depth 60 fits 20000,
+              (search (crosses, sendable) depth 20, (search (crosses, sendable) depth 20, tt)),
+            ),
+          ),
+        ),
+      ),
+    ))
+
+untested_send : IsSend UntestedPlan.the_row
+untested_send = view_send _ _ _ _ _ (recorded_send untested.the_field.row _ _ untested.the_type.to_one
+    (struct_send (Declared.shape untested.the_type) (search (parts_send, crosses, sendable) depth 60 fits 20000, tt)))
+
+done_send : IsSend Done.the_row
+done_send = view_send _ _ _ _ _ (recorded_send done.the_field.row _ _ done.the_type.to_one
+    (struct_send (Declared.shape done.the_type) (search (untested_send, crosses, sendable) depth 60 fits 20000, tt)))
+
+plan_send : IsSend Plan.the_row
+plan_send = search (done_send, crosses, sendable) depth 60 fits 20000
+
+state_send : IsSend State.the_field.row
+state_send = search (
+  reply.the_send,
+  call.the_field_send,
+  ctx.the_field_send,
+  planner.the_send,
+  lock_request.the_send,
+  entry.the_send,
+  given.the_send,
+  tx.the_send,
+  fetch.the_send,
+  crosses,
+  sendable,
+) depth 60 fits 20000
+
+prepared_send : IsSend Prepared.the_row
+prepared_send = view_send _ _ _ _ _ (recorded_send prepared.the_field.row _ _ prepared.the_type.to_one
+    (struct_send (Declared.shape prepared.the_type) (
+      search (state_send, crosses, sendable) depth 60 fits 20000,
+      (search (plan_send, crosses, sendable) depth 60 fits 20000, tt),
+    )))
+
 worker_send : IsSend Worker.the_field.row
 worker_send = struct_send (Declared.shape Worker.the_type) (
-  search (
-    reply.the_send,
-    call.the_field_send,
-    ctx.the_field_send,
-    planner.the_send,
-    aim.the_send,
-    entry.the_send,
-    given.the_send,
-    tx.the_send,
-    fetch.the_send,
-    crosses,
-    sendable,
-  ) depth 60 fits 20000,
+  search (prepared_send, crosses, sendable) depth 60 fits 20000,
   tt,
 )
 
@@ -90,9 +140,9 @@ core_send : IsSend (Core.the_row Done.the_row Reply.the_row change.ghosts)
 core_send =
     search (wal.the_send, table.the_send, residency.the_send, logs.the_send, crosses, sendable) depth 100 fits 100000
 
-errand_send : (L : RattleType) (l : Ledger.Ghosts L.Denot) → IsSend (Errand.the_row L l)
-errand_send L l = view_send _ _ _ _ _ (recorded_send (errand.the_field L l).row _ _ (errand.the_type L l).to_one
-    (struct_send (Declared.shape (errand.the_type L l)) (
+in_flight_send : (L : RattleType) (l : Ledger.Ghosts L.Denot) → IsSend (CallInFlight.the_row L l)
+in_flight_send L l = view_send _ _ _ _ _ (recorded_send (in_flight.the_field L l).row _ _ (in_flight.the_type L l).to_one
+    (struct_send (Declared.shape (in_flight.the_type L l)) (
       search (crosses, sendable) depth 60 fits 20000,
       (
         search (crosses, sendable) depth 60 fits 20000,
@@ -104,7 +154,7 @@ work_send : (L : RattleType) (l : Ledger.Ghosts L.Denot) → IsSend (Work.the_ro
 work_send L l = view_send _ _ _ _ _ (recorded_send (work.the_field L l).row _ _ (work.the_type L l).to_one
     (struct_send (Declared.shape (work.the_type L l)) (
       search (worker_send, crosses, sendable) depth 60 fits 20000,
-      (search (errand_send L l, crosses, sendable) depth 20, (told.the_field_send, tt)),
+      (search (in_flight_send L l, crosses, sendable) depth 20, (step_result.the_field_send, tt)),
     )))
 
 seat_send : (L S : RattleType) (l : Ledger.Ghosts L.Denot) → IsSend S → IsSend (Seat.the_row L S l)

@@ -88,7 +88,7 @@ fn let_in<L: Ledger, G: Whole, I: Whole, P: Port, S, R: Wait + Clock>(
     incoming: Incoming,
 ) -> Option<Guest<L>> {
     let mut open = server.sync.open.lock(rt);
-    if open.count() >= MOST_CONNECTIONS && !make_place(rt, &mut *open) {
+    if open.count() >= MOST_CONNECTIONS && !close_idle_one(rt, &mut *open) {
         return None;
     }
     let (key, number) = open.next();
@@ -105,7 +105,7 @@ fn let_in<L: Ledger, G: Whole, I: Whole, P: Port, S, R: Wait + Clock>(
 }
 
 // Ends the connection that has been silent longest, where that is long enough. Whether there was one.
-fn make_place<L: Ledger, R: Wait + Clock>(
+fn close_idle_one<L: Ledger, R: Wait + Clock>(
     rt: &R,
     open: &mut Connections<Arc<Connection<L>, Global>>,
 ) -> bool {
@@ -117,7 +117,7 @@ fn make_place<L: Ledger, R: Wait + Clock>(
         let Some(connection) = open.find(silent.key, silent.number) else {
             return false;
         };
-        if connection.give_place(rt, second, SILENT_SECONDS) {
+        if connection.close_if_idle(rt, second, SILENT_SECONDS) {
             connection.close();
             drop(open.close(silent.key, silent.number));
             return true;

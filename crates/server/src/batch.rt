@@ -1,7 +1,7 @@
 //! Calls of one connection that are driven one after another.
 use base::BATCH_CALLS;
 use pool::{Answer, Job};
-use server_sync::{Parked, SeatKey};
+use server_sync::{SeatAwaitingLog, SeatKey};
 use std::alloc::{AllocError, Global};
 use std::collections::VecDeque;
 use std::sync::ledger::Ledger;
@@ -13,7 +13,7 @@ use std::sync::ledger::Ledger;
 pub struct Batch<L: Ledger> {
     pub jobs: VecDeque<Job>,
     pub answers: VecDeque<Answer<L>>,
-    pub waiting: VecDeque<Parked>,
+    pub waiting: VecDeque<SeatAwaitingLog>,
     pub held_up: Option<SeatKey>,
 }
 
@@ -35,7 +35,7 @@ impl<L: Ledger> Batch<L> {
 
     /// Whether what was driven is one call, which waits to be settled, and none is left.
     pub fn is_one_that_waits(&self) -> bool {
-        let is_alone = self.jobs.is_empty() && self.answers.is_empty() && self.held_up.is_none();
-        is_alone && self.waiting.len() == 1
+        let is_single = self.jobs.is_empty() && self.answers.is_empty() && self.held_up.is_none();
+        is_single && self.waiting.len() == 1
     }
 }

@@ -2,11 +2,12 @@
 use crate::batch::Batch;
 use crate::state::{ServerState, is_crowded};
 use base::{
-    BATCH_CALLS, FIRST_SLEEP_MICROSECONDS, FULL_MILLISECONDS, LONGEST_SLEEP_MICROSECONDS, YIELDS,
+    BATCH_CALLS, FIRST_SLEEP_MICROSECONDS, FULL_MILLISECONDS, LONGEST_SLEEP_MICROSECONDS,
+    STEPS_IN_A_ROW, YIELDS,
 };
 use disk::{Port, Source};
-use pool::{Answer, Job, Look, NoGate, Seat, Told, Turn, Whole, worker_io};
-use server_sync::{Parked, SeatKey};
+use pool::{Answer, CoreSummary, Job, NoGate, Seat, StepResult, Turn, Whole, worker_io};
+use server_sync::{SeatAwaitingLog, SeatKey};
 use std::sync::Wait;
 use std::sync::ledger::Ledger;
 use std::thread;
@@ -26,8 +27,8 @@ enum Driven<L: Ledger> {
 #[derive(Drop)]
 pub enum Seen<L: Ledger> {
     Answered(Answer<L>),
-    /// Its change waits to be settled: it is parked, and the finisher answers it.
-    Parked,
+    /// Its change waits to be settled: it waits for the log, and the finisher answers it.
+    SeatAwaitingLog,
     /// It had no call, so none is answered.
     Nothing,
 }
@@ -39,13 +40,13 @@ pub struct BatchOutcome {
     pub is_well: bool,
     /// A seat was free for the first of them.
     pub is_begun: bool,
-    /// Something was committed, and so many commits are kept that it waits until some of them are home.
+    /// Something was committed, and so much is kept that it waits until some commits are home.
     pub is_crowded: bool,
     /// Its one call waits to be settled, and no other has a seat. The logger wasn't told of it.
-    pub is_alone: bool,
+    pub is_single: bool,
 }
 
-/// Hands a free seat a job, and drives it to its answer, or parks it.
+/// Hands a free seat a job, and drives it to its answer, or leaves it to wait for the log.
 pub fn answer_in<L: Ledger, G: Whole, I: Whole, P: Port, S: Source, R: Wait + Clock>(
     rt: &R,
     server: &ServerState<L, G, I, P, S>,
@@ -71,7 +72,7 @@ fn hand<L: Ledger, G: Whole, I: Whole, P: Port, S, R: Wait + Clock>(
 }
 
 /// Drives the calls of a batch in a row, one after another in a free seat, up to the first that has to wait for
-/// something but to be settled. The jobs that are left come behind it, or found no seat free. Who `logs` settles
+/// something but to be settled, that makes more steps than one may in a row, or whose plan may take long. The jobs that are left come behind it, or found no seat free. Who `logs` settles
 /// the change of one that is alone.
 pub fn drive_batch<L: Ledger, G: Whole, I: Whole, P: Port, S, R: Wait + Clock>(
     rt: &R,
@@ -80,17 +81,17 @@ pub fn drive_batch<L: Ledger, G: Whole, I: Whole, P: Port, S, R: Wait + Clock>(
     logs: bool,
 ) -> BatchOutcome {
     let jobs = batch.jobs.len();
-    let (is_well, look) = drive_under_lock(rt, server, batch);
-    let is_alone = logs && batch.is_one_that_waits() && server.sync.free.is_one_out(rt);
-    let is_crowded = match look {
-        Some(look) => server.tell_of_commit(rt, look, is_alone),
+    let (is_well, summary) = drive_under_lock(rt, server, batch);
+    let is_single = logs && batch.is_one_that_waits() && server.sync.free.is_one_out(rt);
+    let is_crowded = match summary {
+        Some(summary) => server.tell_of_commit(rt, summary, is_single),
         None => false,
     };
     BatchOutcome {
         is_well,
         is_begun: batch.jobs.len() < jobs,
         is_crowded,
-        is_alone,
+        is_single,
     }
 }
 
@@ -99,7 +100,7 @@ fn drive_under_lock<L: Ledger, G: Whole, I: Whole, P: Port, S, R: Wait + Clock>(
     rt: &R,
     server: &ServerState<L, G, I, P, S>,
     batch: &mut Batch<L>,
-) -> (bool, Option<Look>) {
+) -> (bool, Option<CoreSummary>) {
     let _steps = server.sync.scheduler.lock(rt);
     let mut is_well = true;
     let mut committed = false;
@@ -124,8 +125,8 @@ fn drive_under_lock<L: Ledger, G: Whole, I: Whole, P: Port, S, R: Wait + Clock>(
                 is_well = batch.answers.push_back(answer).is_ok() && is_well;
             }
             First::Waits(place) => {
-                let parked = Parked { place, seat: key };
-                is_well = batch.waiting.push_back(parked).is_ok() && is_well;
+                let awaiting_log = SeatAwaitingLog { place, seat: key };
+                is_well = batch.waiting.push_back(awaiting_log).is_ok() && is_well;
             }
             First::HeldUp => {
                 batch.held_up = Some(key);
@@ -136,12 +137,12 @@ fn drive_under_lock<L: Ledger, G: Whole, I: Whole, P: Port, S, R: Wait + Clock>(
     if let Some(key) = free {
         server.sync.free.put(rt, key);
     }
-    let look = if committed {
-        Some(server.shared.look(rt))
+    let summary = if committed {
+        Some(server.shared.summary(rt))
     } else {
         None
     };
-    (is_well, look)
+    (is_well, summary)
 }
 
 // The seat that has just answered, or another that is free.
@@ -156,7 +157,7 @@ fn seat_for_next<L: Ledger, G: Whole, I: Whole, P: Port, S, R: Wait>(
     }
 }
 
-/// Drives a seat to its answer, and frees it; or parks it, where its change waits to be settled.
+/// Drives a seat to its answer, and frees it; or leaves it to wait for the log, where its change waits to be settled.
 pub fn see_through<L: Ledger, G: Whole, I: Whole, P: Port, S: Source, R: Wait + Clock>(
     rt: &R,
     server: &ServerState<L, G, I, P, S>,
@@ -170,9 +171,9 @@ pub fn see_through<L: Ledger, G: Whole, I: Whole, P: Port, S: Source, R: Wait + 
                 return Seen::Answered(answer);
             }
             Driven::Waits(place) => {
-                let parked = Parked { place, seat: key };
-                match server.sync.parking.park(rt, parked) {
-                    Ok(()) => return Seen::Parked,
+                let awaiting_log = SeatAwaitingLog { place, seat: key };
+                match server.sync.log_waits.await_log(rt, awaiting_log) {
+                    Ok(()) => return Seen::SeatAwaitingLog,
                     Err(back) => key = back,
                 }
             }
@@ -195,25 +196,28 @@ fn go_on<L: Ledger, G: Whole, I: Whole, P: Port, S: Source, R: Wait + Clock>(
         return Driven::Empty;
     };
     let mut seat = seat.lock(rt);
-    let mut kept_off = 0;
+    let mut deferred = 0;
     for _ in rt.forever() {
         if seat.is_due() {
             worker_io(&mut *seat, key.number(), &NoGate);
         }
+        if seat.plans_long() {
+            seat.plan(server.alloc);
+        }
         let rounds = server.sync.rounds.count();
-        let (made, look) = steps(rt, server, &mut *seat);
-        if let Some(look) = look {
-            if server.tell_of_commit(rt, look, false) {
+        let (made, summary) = steps(rt, server, &mut *seat);
+        if let Some(summary) = summary {
+            if server.tell_of_commit(rt, summary, false) {
                 wait_while_crowded(rt, server);
             }
         }
         if let Some(answer) = seat.take_answer() {
             return Driven::Answered(answer);
         }
-        match seat.told() {
-            Told::KeptOff => pause(rt, &mut kept_off),
-            Told::Full => wait_for_room(rt, server, rounds),
-            Told::Nothing | Told::Committed => kept_off = 0,
+        match seat.step_result() {
+            StepResult::LockDeferred => back_off(rt, &mut deferred),
+            StepResult::Full => wait_for_log_space(rt, server, rounds),
+            StepResult::Nothing | StepResult::Committed => deferred = 0,
         }
         if let Some(place) = seat.waits() {
             return Driven::Waits(place.0);
@@ -238,7 +242,7 @@ enum First<L: Ledger> {
     Answered(Answer<L>),
     // Its change waits for this place to be settled.
     Waits(u64),
-    // It has to wait for something else.
+    // It has to wait for something else, has made many steps in a row, or is to make a plan that may take long.
     HeldUp,
 }
 
@@ -268,44 +272,47 @@ fn steps<L: Ledger, G: Whole, I: Whole, P: Port, S, R: Wait>(
     rt: &R,
     server: &ServerState<L, G, I, P, S>,
     seat: &mut Seat<L, S>,
-) -> (Made, Option<Look>) {
+) -> (Made, Option<CoreSummary>) {
     let _steps = server.sync.scheduler.lock(rt);
     let made = steps_in_a_row(rt, server, seat);
-    let look = if made.committed {
-        Some(server.shared.look(rt))
+    let summary = if made.committed {
+        Some(server.shared.summary(rt))
     } else {
         None
     };
-    (made, look)
+    (made, summary)
 }
 
-// The steps, under the scheduler lock.
+// The steps, under the scheduler lock. It is let go before a plan that may take long, which is made without it, and after
+// so many steps in a row, so that others come to theirs.
 fn steps_in_a_row<L: Ledger, G: Whole, I: Whole, P: Port, S, R: Wait>(
     rt: &R,
     server: &ServerState<L, G, I, P, S>,
     seat: &mut Seat<L, S>,
 ) -> Made {
     let mut committed = false;
-    let mut looked = false;
-    for _ in rt.forever() {
+    let mut has_polled = false;
+    for _ in 0..STEPS_IN_A_ROW {
         let turn = server.shared.work(rt, server.alloc, seat);
-        let told = seat.told();
-        committed = committed || told == Told::Committed;
-        let is_held_up = told == Told::KeptOff || told == Told::Full || seat.is_due();
+        let step_result = seat.step_result();
+        committed = committed || step_result == StepResult::Committed;
+        let is_held_up = step_result == StepResult::LockDeferred
+            || step_result == StepResult::Full
+            || seat.is_due();
         let waits = seat.waits().is_some();
-        if turn != Turn::Moved || is_held_up || (waits && looked) {
+        if turn != Turn::Moved || is_held_up || (waits && has_polled) || seat.plans_long() {
             return Made { turn, committed };
         }
-        looked = waits;
+        has_polled = waits;
     }
     Made {
-        turn: Turn::Idle,
+        turn: Turn::Moved,
         committed,
     }
 }
 
 // Waits until there may be room in the log.
-fn wait_for_room<L: Ledger, G: Whole, I: Whole, P: Port, S, R: Wait + Clock>(
+fn wait_for_log_space<L: Ledger, G: Whole, I: Whole, P: Port, S, R: Wait + Clock>(
     rt: &R,
     server: &ServerState<L, G, I, P, S>,
     rounds: u64,
@@ -316,14 +323,14 @@ fn wait_for_room<L: Ledger, G: Whole, I: Whole, P: Port, S, R: Wait + Clock>(
     server.sync.rounds.wait_for_next(rt, rounds, patience);
 }
 
-/// Waits while too many commits are kept, as bringing them home is slow.
+/// Waits while too many commits are kept, which pin too many blocks, as bringing them home is slow.
 pub fn wait_while_crowded<L: Ledger, G: Whole, I: Whole, P: Port, S, R: Wait + Clock>(
     rt: &R,
     server: &ServerState<L, G, I, P, S>,
 ) {
     for _ in rt.forever() {
         let rounds = server.sync.rounds.count();
-        if !is_crowded(server.shared.look(rt)) {
+        if !is_crowded(server.shared.summary(rt)) {
             return;
         }
         let patience = Duration::from_millis(FULL_MILLISECONDS);
@@ -332,13 +339,13 @@ pub fn wait_while_crowded<L: Ledger, G: Whole, I: Whole, P: Port, S, R: Wait + C
 }
 
 // Lets others go on: yields at first, and then sleeps longer and longer.
-fn pause<R: Clock>(rt: &R, kept_off: &mut u32) {
-    *kept_off = kept_off.saturating_add(1);
-    if *kept_off <= YIELDS {
+fn back_off<R: Clock>(rt: &R, deferred: &mut u32) {
+    *deferred = deferred.saturating_add(1);
+    if *deferred <= YIELDS {
         thread::yield_now();
         return;
     }
-    let times = u64::from(*kept_off - YIELDS);
+    let times = u64::from(*deferred - YIELDS);
     let wanted = FIRST_SLEEP_MICROSECONDS.saturating_mul(times);
     let microseconds = wanted.min(LONGEST_SLEEP_MICROSECONDS);
     thread::sleep(rt, Duration::from_micros(microseconds));

@@ -36,32 +36,32 @@ pub fn log_all<L: Ledger, G: Whole, I: Whole, P: Port, S, R: Wait + Clock>(
     rt: &R,
     server: &ServerState<L, G, I, P, S>,
 ) {
-    let mut told = 0;
+    let mut settled_seen = 0;
     for _ in rt.forever() {
         let turn = {
             let mut seat = server.logger.lock(rt);
-            log_up_to(rt, server, &mut *seat, &mut told, u64::MAX)
+            log_up_to(rt, server, &mut *seat, &mut settled_seen, u64::MAX)
         };
         if turn == Turn::Broken || !wait(rt, server) {
             break;
         }
     }
     // A store that is broken settles no more: what waits is answered so.
-    server.sync.parking.raise(rt, u64::MAX);
+    server.sync.log_waits.advance_settled(rt, u64::MAX);
 }
 
 /// Settles what is committed up to a place, by the logger's seat, where the logger doesn't have it; and wakes the
 /// logger where more is to be settled.
-pub fn log_alone<L: Ledger, G: Whole, I: Whole, P: Port, S, R: Wait>(
+pub fn log_single<L: Ledger, G: Whole, I: Whole, P: Port, S, R: Wait>(
     rt: &R,
     server: &ServerState<L, G, I, P, S>,
     place: u64,
 ) {
     if let Some(mut seat) = server.logger.try_lock() {
-        let mut told = place.saturating_sub(1);
-        let _ = log_up_to(rt, server, &mut *seat, &mut told, place);
+        let mut settled_seen = place.saturating_sub(1);
+        let _ = log_up_to(rt, server, &mut *seat, &mut settled_seen, place);
     }
-    if !server.shared.look(rt).is_settled {
+    if !server.shared.summary(rt).is_settled {
         server.sync.to_log.notify(rt);
     }
 }
@@ -72,7 +72,7 @@ fn log_up_to<L: Ledger, G: Whole, I: Whole, P: Port, S, R: Wait>(
     rt: &R,
     server: &ServerState<L, G, I, P, S>,
     seat: &mut IoSeat<G, P>,
-    told: &mut u64,
+    settled_seen: &mut u64,
     place: u64,
 ) -> Turn {
     let logged = Logged {
@@ -83,10 +83,10 @@ fn log_up_to<L: Ledger, G: Whole, I: Whole, P: Port, S, R: Wait>(
             Turn::Broken => return Turn::Broken,
             Turn::Moved => {
                 logger_io(seat, &logged);
-                if tell(rt, server, told) {
+                if tell(rt, server, settled_seen) {
                     wake_installer(rt, server);
                 }
-                if *told >= place {
+                if *settled_seen >= place {
                     return Turn::Moved;
                 }
             }
@@ -104,18 +104,18 @@ fn log_up_to<L: Ledger, G: Whole, I: Whole, P: Port, S, R: Wait>(
 fn tell<L: Ledger, G: Whole, I: Whole, P: Port, S, R: Wait>(
     rt: &R,
     server: &ServerState<L, G, I, P, S>,
-    told: &mut u64,
+    settled_seen: &mut u64,
 ) -> bool {
-    let look = server.shared.look(rt);
-    if look.tail <= ROOMY_BLOCKS {
+    let summary = server.shared.summary(rt);
+    if summary.tail <= ROOMY_BLOCKS {
         server.sync.rounds.next(rt);
     }
-    let place = look.settled.0;
-    if place <= *told {
+    let place = summary.settled.0;
+    if place <= *settled_seen {
         return false;
     }
-    *told = place;
-    server.sync.parking.raise(rt, place);
+    *settled_seen = place;
+    server.sync.log_waits.advance_settled(rt, place);
     true
 }
 
@@ -137,18 +137,18 @@ fn wait<L: Ledger, G: Whole, I: Whole, P: Port, S, R: Wait + Clock>(
     rt: &R,
     server: &ServerState<L, G, I, P, S>,
 ) -> bool {
-    let look = server.shared.look(rt);
-    if look.broken {
+    let summary = server.shared.summary(rt);
+    if summary.broken {
         return true;
     }
-    if !look.is_settled {
+    if !summary.is_settled {
         // The log has no room.
         server.sync.to_install.notify_now(rt);
     }
     if server.sync.to_log.wait(rt) != Notice::End {
         return true;
     }
-    if look.is_settled {
+    if summary.is_settled {
         return false;
     }
     thread::sleep(rt, Duration::from_millis(1));

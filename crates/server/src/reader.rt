@@ -1,7 +1,7 @@
 //! The thread that reads a connection.
 use crate::batch::Batch;
 use crate::driver::{Seen, drive_batch, see_through, wait_while_crowded};
-use crate::logger::log_alone;
+use crate::logger::log_single;
 use crate::state::ServerState;
 use base::{MOST_WAITING_BYTES, REPLY_BATCH_BYTES, STREAM_PIECE_BYTES};
 use disk::{Port, Source};
@@ -62,7 +62,10 @@ fn read_pieces<L: Ledger, G: Whole, I: Whole, P: Port, S: Source, R: Wait + Cloc
     let mut replies = ReplyBytes::new(server.alloc, context.key, context.number);
     let mut stream = Stream::new(server.alloc, of);
     for _ in rt.forever() {
-        if !context.connection.wait_for_room(rt, MOST_WAITING_BYTES) {
+        if !context
+            .connection
+            .wait_for_send_window(rt, MOST_WAITING_BYTES)
+        {
             return false;
         }
         context.connection.listen(rt);
@@ -130,7 +133,10 @@ fn gather<L: Ledger, G: Whole, I: Whole, P: Port, S, R: Wait>(
     batch: &mut Batch<L>,
     replies: &mut ReplyBytes<L>,
 ) -> Gathered {
-    if !context.connection.wait_for_room(rt, MOST_WAITING_BYTES) {
+    if !context
+        .connection
+        .wait_for_send_window(rt, MOST_WAITING_BYTES)
+    {
         return Gathered::Closes;
     }
     for _ in rt.forever() {
@@ -183,7 +189,7 @@ fn answer_batch<L: Ledger, G: Whole, I: Whole, P: Port, S: Source, R: Wait + Clo
     is_well
 }
 
-// Drives calls of a batch, parks those that wait to be settled, puts the replies of the others, and drives the one
+// Drives calls of a batch, leaves those to the log that wait to be settled, puts the replies of the others, and drives the one
 // that was held up to its answer; where no seat is free, hands the first on. One that is alone is settled by this
 // thread, by the logger's seat. So what a seat has taken is waited for by no other of this connection, and nothing is
 // written while a seat is in hand. False where the connection is to end.
@@ -199,14 +205,14 @@ fn answer_some<L: Ledger, G: Whole, I: Whole, P: Port, S: Source, R: Wait + Cloc
     let outcome = drive_batch(rt, server, batch, logs);
     let mut is_well = outcome.is_well;
     for _ in 0..batch.waiting.len() {
-        let Some(parked) = batch.waiting.pop_front() else {
+        let Some(awaiting_log) = batch.waiting.pop_front() else {
             break;
         };
         context.connection.hand_on(rt);
-        if outcome.is_alone {
-            log_alone(rt, server, parked.place);
+        if outcome.is_single {
+            log_single(rt, server, awaiting_log.place);
         }
-        if let Err(key) = server.sync.parking.park(rt, parked) {
+        if let Err(key) = server.sync.log_waits.await_log(rt, awaiting_log) {
             is_well = drive_on(rt, server, context, key, replies) && is_well;
         }
     }
@@ -240,7 +246,7 @@ fn answer_some<L: Ledger, G: Whole, I: Whole, P: Port, S: Source, R: Wait + Cloc
 }
 
 // Drives a seat, whose call counts as handed on, to its answer, and puts the reply. Where its change waits to be
-// settled it is parked. False where memory is refused for the reply, or no call is there to be answered.
+// settled it waits for the log. False where memory is refused for the reply, or no call is there to be answered.
 fn drive_on<L: Ledger, G: Whole, I: Whole, P: Port, S: Source, R: Wait + Clock>(
     rt: &R,
     server: &ServerState<L, G, I, P, S>,
@@ -249,7 +255,7 @@ fn drive_on<L: Ledger, G: Whole, I: Whole, P: Port, S: Source, R: Wait + Clock>(
     replies: &mut ReplyBytes<L>,
 ) -> bool {
     match see_through(rt, server, key) {
-        Seen::Parked => true,
+        Seen::SeatAwaitingLog => true,
         Seen::Answered(answer) => {
             context.connection.take_back(rt);
             put(server.alloc, answer, replies)

@@ -31,7 +31,7 @@ where
     F: BlockFile + Send + Sync,
     R: Threads + Wait + Clock + Sync,
     A: Announcer + Drop,
-    ensures told { Announces A.tells announcer result.1 result.0 }
+    ensures announces_result { Announces A.tells announcer result.1 result.0 }
     ensures boot { IfOk result.1 (λ ended. ended.core.boot ≡ store.core.boot) }
 {
     let opened = Opened {
@@ -82,7 +82,7 @@ where
         × (I.all ≡ I.parts) × (ledgers.installed.parts ≡ 1) × (I.first ≡ opened.parts.core.inst_calls) }
     requires sides { (G.side ≡ Log) × (I.side ≡ Home) }
     requires boot { opened.parts.core.boot ≡ G.boot }
-    ensures told { Announces A.tells announcer result.1 result.0 }
+    ensures announces_result { Announces A.tells announcer result.1 result.0 }
     ensures boot { IfOk result.1 (λ ended. ended.core.boot ≡ opened.parts.core.boot) }
 {
     let Opened { parts, workers } = opened;

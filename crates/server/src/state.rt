@@ -2,17 +2,23 @@
 ghost use Rattle.nfs_spec.specs.Model.Sound.{SoundTime};
 
 use crate::jobs::Jobs;
-use base::{CROWDING_COMMITS, URGENT_COMMITS};
+use base::{CROWDING_BLOCKS, URGENT_COMMITS};
 use disk::Port;
 use nfs_types::Moment;
-use pool::{Answer, Connections, IoSeat, Look, Pool, Put, ReplyBytes, Seat, Shared, Whole};
+use pool::{Answer, Connections, CoreSummary, IoSeat, Pool, Put, ReplyBytes, Seat, Shared, Whole};
 use server_connection::Connection;
-use server_sync::{FreeSeats, Moments, Notifier, Parking, Rounds, Seats, moment_of};
+use server_sync::{FreeSeats, LogWaits, Moments, Notifier, Rounds, Seats, moment_of};
 use std::alloc::{AllocError, Global};
 use std::sync::atomic::AtomicU64;
 use std::sync::ledger::Ledger;
 use std::sync::{Arc, Mutex, Wait};
 use std::time::Clock;
+
+// Of how many kept commits on who has committed waits until some are home, where more than `CROWDING_BLOCKS` blocks are
+// pinned as well.
+const CROWDING_COMMITS: usize = 512;
+// Of how many on he waits whatever they pin: each takes memory, and time under the lock when it is let go.
+const MOST_KEPT_COMMITS: usize = 16_384;
 
 /// What the threads share. A seat is in the hands of one thread at a time.
 pub struct ServerState<L: Ledger, G: Whole, I: Whole, P: Port, S> {
@@ -29,7 +35,7 @@ pub struct ServerState<L: Ledger, G: Whole, I: Whole, P: Port, S> {
 pub struct Synchronization<L: Ledger> {
     pub free: FreeSeats,
     pub jobs: Jobs,
-    pub parking: Parking,
+    pub log_waits: LogWaits,
     pub to_log: Notifier,
     pub to_install: Notifier,
     pub rounds: Rounds,
@@ -51,7 +57,7 @@ impl<L: Ledger> Synchronization<L> {
         Ok(Synchronization {
             free: FreeSeats::new(alloc, seats)?,
             jobs: Jobs::new(alloc)?,
-            parking: Parking::new(alloc, settled, seats)?,
+            log_waits: LogWaits::new(alloc, settled, seats)?,
             to_log: Notifier::new(),
             to_install: Notifier::new(),
             rounds: Rounds::new(),
@@ -147,19 +153,20 @@ impl<L: Ledger, G: Whole, I: Whole, P: Port, S> ServerState<L, G, I, P, S> {
     }
 
     /// Wakes the logger, where a commit waits for it that who calls doesn't log, and the installer, where many are
-    /// kept. True where so many are that who has committed waits until some of them are home.
-    pub fn tell_of_commit<R: Wait>(&self, rt: &R, look: Look, logs: bool) -> bool {
-        if !look.is_settled && !logs {
+    /// kept. True where they pin so many blocks that who has committed waits until some of them are home.
+    pub fn tell_of_commit<R: Wait>(&self, rt: &R, summary: CoreSummary, logs: bool) -> bool {
+        if !summary.is_settled && !logs {
             self.sync.to_log.notify(rt);
         }
-        if look.kept > URGENT_COMMITS {
+        if summary.kept > URGENT_COMMITS {
             self.sync.to_install.notify_now(rt);
         }
-        is_crowded(look)
+        is_crowded(summary)
     }
 }
 
-/// Whether so many commits are kept that who has committed waits until some of them are home.
-pub fn is_crowded(look: Look) -> bool {
-    look.kept > CROWDING_COMMITS && !look.broken
+/// Whether so many commits are kept, or pin so many blocks, that who has committed waits until some of them are home.
+pub fn is_crowded(summary: CoreSummary) -> bool {
+    let pins_much = summary.kept > CROWDING_COMMITS && summary.pinned > CROWDING_BLOCKS;
+    (pins_much || summary.kept > MOST_KEPT_COMMITS) && !summary.broken
 }

@@ -49,10 +49,10 @@ where
     S: Source + Send + Drop,
     R: Threads + Wait + Clock + Sync,
     A: Announcer + Drop,
-    ensures told { Announces A.tells announcer result.1 result.0 }
+    ensures announces_result { Announces A.tells announcer result.1 result.0 }
     ensures boot { IfOk result.1 (λ ended. ended.core.boot ≡ G.boot) }
 {
-    let settled = pool.shared.look(rt).settled.0;
+    let settled = pool.shared.summary(rt).settled.0;
     let Ok(sync) = Synchronization::new(alloc, pool.seats.len(), settled) else {
         drop(end(rt, pool));
         return (announcer, Err(ServeFault::Memory));
@@ -129,7 +129,7 @@ where
             server.sync.free.wait_for_all(rt);
             server.sync.to_log.end(rt);
             join(rt, logger);
-            server.sync.parking.end(rt);
+            server.sync.log_waits.end(rt);
             join(rt, finisher);
             server.sync.to_install.end(rt);
             join(rt, installer);

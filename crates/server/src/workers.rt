@@ -20,25 +20,25 @@ pub fn work_all<L: Ledger, G: Whole, I: Whole, P: Port, S: Source, R: Wait + Clo
         let key = server.sync.free.take(rt);
         match answer_in(rt, server, key, job) {
             Seen::Answered(answer) => server.sync.deliver(rt, server.alloc, answer),
-            Seen::Parked => {}
+            Seen::SeatAwaitingLog => {}
             Seen::Nothing => server.sync.let_go(rt, peer, number),
         }
     }
 }
 
-/// Takes parked seats whose changes are settled, until none will come, and drives each to its answer.
+/// Takes seats whose changes are settled, until none will come, and drives each to its answer.
 pub fn finish_all<L: Ledger, G: Whole, I: Whole, P: Port, S: Source, R: Wait + Clock>(
     rt: &R,
     server: &ServerState<L, G, I, P, S>,
 ) {
     for _ in rt.forever() {
-        let Some(key) = server.sync.parking.take(rt) else {
+        let Some(key) = server.sync.log_waits.take(rt) else {
             break;
         };
         match see_through(rt, server, key) {
             Seen::Answered(answer) => server.sync.deliver(rt, server.alloc, answer),
-            // (a seat that was parked has a call)
-            Seen::Parked | Seen::Nothing => {}
+            // (a seat that waited for the log has a call)
+            Seen::SeatAwaitingLog | Seen::Nothing => {}
         }
     }
 }

@@ -2,8 +2,8 @@
 use Rattle.std.specs.Prelude.{ℕ, ◌<◌, List, [], take, Option}
 use Rattle.std.specs.Io.KnownBytes.{Consumes}
 use Rattle.server_connection.specs.declared.piece.Piece as pieces
-use Rattle.server_connection.specs.declared.piece.reading.Came.{Came}
-use Rattle.server_connection.specs.declared.piece.reading.Came.TheVariants.{Piece, Again, Nothing, Gone}
+use Rattle.server_connection.specs.declared.piece.read.Came.{Came}
+use Rattle.server_connection.specs.declared.piece.read.Came.TheVariants.{Piece, Again, Nothing, Gone}
 
 abbrev pub bytes_of : pieces.Piece → List ℕ
 bytes_of piece = take piece.count piece.bytes.items

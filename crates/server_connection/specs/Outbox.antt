@@ -32,10 +32,10 @@ pub record Outbox : Type 0 where
 abbrev pub IsLeft : Outbox → Written → Outbox → Type 0
 IsLeft before more after =
     (after.shut ≡ false → AreForOne more before.replies.pending
-    × (after.replies.pending ≡ with_more more after.replies.pending.room before.replies.pending))
+    × (after.replies.pending ≡ with_more more after.replies.pending.buffer_capacity before.replies.pending))
     × (before.shut ≡ true → after.shut ≡ true)
     × (after.shut ≡ true → (before.shut ≡ true) ⊎ ((AreForOne more before.replies.pending → ⊥)
-    ⊎ (before.replies.pending.room < length before.replies.pending.bytes + length more.bytes)))
+    ⊎ (before.replies.pending.buffer_capacity < length before.replies.pending.bytes + length more.bytes)))
     × (after.replies.writing ≡ before.replies.writing)
 
 -- a write failed

@@ -79,7 +79,7 @@ impl<L: Ledger> Connection<L> {
         ensures { replies.new.bytes ≡ [] }
     {
         let is_well = self.write_once(rt, alloc, replies);
-        replies.clear();
+        replies.empty_out();
         is_well
     }
 
@@ -186,15 +186,15 @@ impl<L: Ledger> Connection<L> {
     fn take_for_writer<R: Wait>(&self, rt: &R, alloc: Global) -> Option<(Permit, Backlog<L>)> {
         let mut outbox = self
             .to_write
-            .wait_while(rt, self.outbox.lock(rt), |o| o.keeps_writer_waiting());
+            .wait_while(rt, self.outbox.lock(rt), |o| o.holds_writer_waiting());
         outbox.begin(Backlog::new(alloc, 0, 0))
     }
 
     /// Waits until no more than so many bytes wait. False where no more can be written.
-    pub fn wait_for_room<R: Wait>(&self, rt: &R, most: usize) -> bool {
+    pub fn wait_for_send_window<R: Wait>(&self, rt: &R, most: usize) -> bool {
         let outbox = self
             .written
-            .wait_while(rt, self.outbox.lock(rt), |o| !o.has_room(most));
+            .wait_while(rt, self.outbox.lock(rt), |o| !o.has_send_window(most));
         !outbox.is_shut()
     }
 
@@ -237,8 +237,8 @@ impl<L: Ledger> Connection<L> {
 
     /// Ends a connection that has been silent for more than so many seconds at this second (`steady_second`). Whether
     /// it has been.
-    pub fn give_place<R: Wait>(&self, rt: &R, second: u64, most: u64) -> bool {
-        let is_given = self.outbox.lock(rt).give_place(second, most);
+    pub fn close_if_idle<R: Wait>(&self, rt: &R, second: u64, most: u64) -> bool {
+        let is_given = self.outbox.lock(rt).close_if_idle(second, most);
         if is_given {
             self.to_write.notify_one();
         }

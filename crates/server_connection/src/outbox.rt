@@ -56,7 +56,7 @@ impl<L: Ledger> Outbox<L> {
 
     /// Nothing waits, of the connection of this key and number, which came at this second.
     pub fn new(alloc: Global, key: usize, number: u64, second: u64) -> Outbox<L>
-        ensures pending { result.replies.pending ≡ nothing_for key number result.replies.pending.room }
+        ensures pending { result.replies.pending ≡ nothing_for key number result.replies.pending.buffer_capacity }
         ensures writing { result.replies.writing ≡ false }
         ensures due { result.due ≡ 0 }
         ensures goes_on { (result.shut ≡ false) × (result.ended ≡ false) }
@@ -166,7 +166,7 @@ impl<L: Ledger> Outbox<L> {
     }
 
     /// Whether the connection's own writer has to wait.
-    pub fn keeps_writer_waiting(&self) -> bool
+    pub fn holds_writer_waiting(&self) -> bool
         ensures goes { result ≡ false → IsForWriter self.now }
         ensures waits { result ≡ true → IsForWriter self.now → ⊥ }
     {
@@ -193,7 +193,7 @@ impl<L: Ledger> Outbox<L> {
     }
 
     /// Whether no more than so many bytes wait, or no more is written.
-    pub fn has_room(&self, most: usize) -> bool
+    pub fn has_send_window(&self, most: usize) -> bool
         ensures { IsTrue result ↔ ((self.now.shut ≡ true) ⊎ (length self.now.replies.pending.bytes ≤ most)) }
     {
         self.shut || self.replies.waiting() <= most
@@ -285,7 +285,7 @@ impl<L: Ledger> Outbox<L> {
 
     /// Ends a connection that has been silent for more than so many seconds, so that another can have its place: no
     /// more is written, and no call comes. Whether it has been; else nothing changes.
-    pub fn give_place(&mut self, second: u64, most: u64) -> bool
+    pub fn close_if_idle(&mut self, second: u64, most: u64) -> bool
         ensures given { (result ≡ true) ↔ (IsSilent self.old × (most < second - self.old.silence.last)) }
         ensures ends { result ≡ true → (self.new.shut ≡ true) × (self.new.ended ≡ true)
             × (self.new.replies.pending.bytes ≡ []) × (self.new.replies.writing ≡ false) }

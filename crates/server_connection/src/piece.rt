@@ -1,10 +1,10 @@
 //! Bytes that were read of a connection.
 ghost use Rattle.std.specs.Prelude.{◌≤◌, length};
 
-mod reading;
+mod read;
 
 use pool_requests::Stream;
-pub(crate) use reading::{Came, read_piece};
+pub(crate) use read::{Came, read_piece};
 use std::alloc::{AllocError, Global};
 
 /// Room for the bytes that a read brings.

@@ -61,7 +61,7 @@ impl<L: Ledger> Model for Replies<L> {
 impl<L: Ledger> Replies<L> {
     /// Nothing waits for the connection of this key and number, and no thread writes.
     pub fn new(alloc: Global, key: usize, number: u64) -> Replies<L>
-        ensures pending { result.pending ≡ nothing_for key number result.pending.room }
+        ensures pending { result.pending ≡ nothing_for key number result.pending.buffer_capacity }
         ensures writing { result.writing ≡ false }
     {
         Replies {
@@ -95,13 +95,13 @@ impl<L: Ledger> Replies<L> {
     /// connection, or memory is refused, which is never so while the buffer has room for them.
     pub fn put(&mut self, replies: &mut ReplyBytes<L>) -> Put
         ensures done { result ≡ puts.Done → AreForOne replies.old self.old.pending
-            × (self.new.pending ≡ with_more replies.old self.new.pending.room self.old.pending) }
+            × (self.new.pending ≡ with_more replies.old self.new.pending.buffer_capacity self.old.pending) }
         ensures used { result ≡ puts.Done → replies.new ≡ none_of replies.old }
         ensures another { result ≡ puts.Another → (AreForOne replies.old self.old.pending → ⊥)
             × (self.new.pending ≡ self.old.pending) }
         ensures refused { result ≡ puts.Refused
-            → (self.new.pending ≡ record self.old.pending { room = self.new.pending.room })
-            × (self.old.pending.room < length self.old.pending.bytes + length replies.old.bytes) }
+            → (self.new.pending ≡ record self.old.pending { buffer_capacity = self.new.pending.buffer_capacity })
+            × (self.old.pending.buffer_capacity < length self.old.pending.bytes + length replies.old.bytes) }
         ensures writing { self.new.writing ≡ self.old.writing }
     {
         self.pending.put(replies)
@@ -127,7 +127,7 @@ impl<L: Ledger> Replies<L> {
     pub fn start(&mut self, used: Backlog<L>) -> Option<(Permit, Backlog<L>)>
         ensures taken { IfSome result (λ taken. (self.old.writing ≡ false) × (taken.1 ≡ self.old.pending)
             × (taken.1.bytes ≢ [])
-            × (self.new.pending ≡ nothing_for self.old.pending.key self.old.pending.number self.new.pending.room)
+            × (self.new.pending ≡ nothing_for self.old.pending.key self.old.pending.number self.new.pending.buffer_capacity)
             × (self.new.writing ≡ true)) }
         ensures nothing { IfNone result ((self.old.writing ≡ false → self.old.pending.bytes ≡ [])
             × (self.new ≡ self.old)) }
@@ -144,7 +144,7 @@ impl<L: Ledger> Replies<L> {
         used: Backlog<L>,
     ) -> Option<(Permit, Backlog<L>)>
         ensures taken { IfSome result (λ taken. (taken.1 ≡ self.old.pending) × (taken.1.bytes ≢ [])
-            × (self.new.pending ≡ nothing_for self.old.pending.key self.old.pending.number self.new.pending.room)
+            × (self.new.pending ≡ nothing_for self.old.pending.key self.old.pending.number self.new.pending.buffer_capacity)
             × (self.new.writing ≡ true)) }
         ensures nothing { IfNone result ((self.old.pending.bytes ≡ []) × (self.new.pending ≡ self.old.pending)
             × (self.new.writing ≡ false)) }
@@ -158,7 +158,7 @@ impl<L: Ledger> Replies<L> {
     // Hands the thread of this permit all that waits, or takes its permit back.
     fn take(&mut self, permit: Permit, used: Backlog<L>) -> Option<(Permit, Backlog<L>)>
         ensures taken { IfSome result (λ taken. (taken.1 ≡ self.old.pending) × (taken.1.bytes ≢ [])
-            × (self.new.pending ≡ nothing_for self.old.pending.key self.old.pending.number self.new.pending.room)
+            × (self.new.pending ≡ nothing_for self.old.pending.key self.old.pending.number self.new.pending.buffer_capacity)
             × (self.new.writing ≡ true)) }
         ensures nothing { IfNone result ((self.old.pending.bytes ≡ []) × (self.new.pending ≡ self.old.pending)
             × (self.new.writing ≡ false)) }
@@ -175,9 +175,9 @@ impl<L: Ledger> Replies<L> {
 
     /// Lets go all that waits.
     pub fn forget(&mut self)
-        ensures pending { self.new.pending ≡ nothing_for self.old.pending.key self.old.pending.number self.new.pending.room }
+        ensures pending { self.new.pending ≡ nothing_for self.old.pending.key self.old.pending.number self.new.pending.buffer_capacity }
         ensures writing { self.new.writing ≡ self.old.writing }
     {
-        self.pending.clear();
+        self.pending.empty_out();
     }
 }

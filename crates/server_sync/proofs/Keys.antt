@@ -5,7 +5,7 @@ use Rattle.std.proofs.lemmas.List.{length-map, map-append, get_or_default}
 use Rattle.std.specs.List.{range_with_len}
 use Rattle.server_sync.proofs.Numbers.{AreOnce, AreBelow, fewer, all_among, range_once, range_below, range_more}
 use Rattle.server_sync.specs.Keys.{numbers_of, AreApart, AreOfSeats, HasKeyOf}
-use Rattle.server_sync.specs.declared.rack.SeatKey.{SeatKey}
+use Rattle.server_sync.specs.declared.free_keys.SeatKey.{SeatKey}
 
 -- the number of the key at a place
 number_at : (keys : List SeatKey) (k d : ℕ) → get_or (numbers_of keys) k d ≡ (get_or keys k (record { number = d })).number

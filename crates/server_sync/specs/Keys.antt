@@ -1,7 +1,7 @@
 -- The keys of seats.
 use Rattle.std.specs.Prelude.{◌≡◌, ◌≢◌, ◌<◌, ℕ, List, map}
 use Rattle.std.specs.List.{All, AllPairs, Any}
-use Rattle.server_sync.specs.declared.rack.SeatKey.{SeatKey}
+use Rattle.server_sync.specs.declared.free_keys.SeatKey.{SeatKey}
 
 -- the numbers of their seats
 abbrev pub numbers_of : List SeatKey → List ℕ

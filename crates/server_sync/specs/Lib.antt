@@ -1,3 +1,3 @@
 pub mod Keys
 pub mod Moments
-pub mod Parked
+pub mod SeatAwaitingLog

@@ -1,12 +1,12 @@
 //! The seats that have no call, shared by the threads that take and free them.
-use crate::{Rack, SeatKey};
+use crate::{FreeKeys, SeatKey};
 use std::alloc::{AllocError, Global};
 use std::sync::{Condvar, Mutex, Wait};
 
 /// The seats that have no call, and the threads that wait for one.
 #[derive(Drop)]
 pub struct FreeSeats {
-    rack: Mutex<Rack>,
+    free_keys: Mutex<FreeKeys>,
     changed: Condvar,
 }
 
@@ -14,44 +14,44 @@ impl FreeSeats {
     /// All of so many seats are free.
     pub fn new(alloc: Global, count: usize) -> Result<FreeSeats, AllocError> {
         Ok(FreeSeats {
-            rack: Mutex::new(Rack::new(alloc, count)?),
+            free_keys: Mutex::new(FreeKeys::new(alloc, count)?),
             changed: Condvar::new(),
         })
     }
 
     /// Takes a seat, where one is free that no other thread waits for.
     pub fn try_take<R: Wait>(&self, rt: &R) -> Option<SeatKey> {
-        self.rack.lock(rt).try_take()
+        self.free_keys.lock(rt).try_take()
     }
 
     /// Waits for a seat, and takes it.
     pub fn take<R: Wait>(&self, rt: &R) -> SeatKey {
-        let mut rack = self.rack.lock(rt);
-        rack.wait();
+        let mut free_keys = self.free_keys.lock(rt);
+        free_keys.wait();
         for _ in rt.forever() {
-            if let Some(key) = rack.take() {
+            if let Some(key) = free_keys.take() {
                 return key;
             }
-            rack = self.changed.wait(rt, rack);
+            free_keys = self.changed.wait(rt, free_keys);
         }
         unreachable!()
     }
 
     /// Gives a seat back.
     pub fn put<R: Wait>(&self, rt: &R, key: SeatKey) {
-        self.rack.lock(rt).give(key);
+        self.free_keys.lock(rt).give(key);
         self.changed.notify_one();
     }
 
     /// Whether all are free but one.
     pub fn is_one_out<R: Wait>(&self, rt: &R) -> bool {
-        self.rack.lock(rt).is_one_out()
+        self.free_keys.lock(rt).is_one_out()
     }
 
     /// Waits until all are free.
     pub fn wait_for_all<R: Wait>(&self, rt: &R) {
-        let _rack = self
+        let _free_keys = self
             .changed
-            .wait_while(rt, self.rack.lock(rt), |r| !r.is_whole());
+            .wait_while(rt, self.free_keys.lock(rt), |r| !r.is_whole());
     }
 }

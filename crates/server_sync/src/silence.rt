@@ -75,7 +75,7 @@ impl Silent {
     /// Of a connection and the one that was silent longest before it, the one that has been longer. Of two that have been
     /// alike it is the first.
     pub fn or_longer(self, longest: Option<Silent>) -> Silent
-        ensures alone { IfNone longest (result ≡ self) }
+        ensures just_self { IfNone longest (result ≡ self) }
         ensures longer { IfSome longest (λ other. other.seconds < self.seconds → result ≡ self) }
         ensures stays { IfSome longest (λ other. self.seconds ≤ other.seconds → result ≡ other) }
     {

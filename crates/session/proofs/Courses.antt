@@ -24,12 +24,12 @@ use Rattle.session_wire.specs.declared.message.ReplyBody.{ReplyBody}
 use Rattle.session_wire.specs.declared.message.ReplyBody.TheVariants as bodies
 use Rattle.session_wire.specs.Replies.{body_too_long, reply_bytes, IsTooLong as IsTooLongReply}
 use Rattle.store_images.specs.Opening.{Opened}
-use Rattle.session.specs.declared.serving.SessionFault.{SessionFault}
-use Rattle.session.specs.declared.serving.SessionFault.TheVariants as faults
+use Rattle.session.specs.declared.stream.SessionFault.{SessionFault}
+use Rattle.session.specs.declared.stream.SessionFault.TheVariants as faults
 use Rattle.session.specs.Replying.{IsMessageAnswered, IsCallAnswered, IsSpelled}
 use Rattle.session.specs.Streaming.{Answered, IsCourse, IsUnfinished, IsUntouched, IsCutShort, StopsAt}
 use Rattle.session.specs.Streaming.{EndsAt, HasReplied, IsCutOff, Delivers, Serves, IsStream, text_of}
-use Rattle.session.specs.Writing.{AreAllSent, AreSent, Calls, Tells, Told}
+use Rattle.session.specs.Writing.{AreAllSent, AreSent, Calls, Tells, OutputState}
 
 -- ---- known bytes
 
@@ -45,13 +45,13 @@ then_more (Some x) (Some y) None bs cs p q = absurd q
 then_more (Some x) (Some y) (Some z) bs cs p q =
     q ∙ ap (λ (l : List ℕ). l ++ cs) p ∙ append_assoc x bs cs
 
-pub kept : (a b : Option (List ℕ)) → Keeps a b → Appends a b []
-kept None b p = tt
-kept (Some x) None p = absurd p
-kept (Some x) (Some y) p = p ∙ sym (append-nil x)
+pub is_preserved : (a b : Option (List ℕ)) → Keeps a b → Appends a b []
+is_preserved None b p = tt
+is_preserved (Some x) None p = absurd p
+is_preserved (Some x) (Some y) p = p ∙ sym (append-nil x)
 
-pub then_kept : (a b c : Option (List ℕ)) (bs : List ℕ) → Appends a b bs → Keeps b c → Appends a c bs
-then_kept a b c bs p q = subst (Appends a c) (append-nil bs) (then_more a b c bs [] p (kept b c q))
+pub then_preserved : (a b c : Option (List ℕ)) (bs : List ℕ) → Appends a b bs → Keeps b c → Appends a c bs
+then_preserved a b c bs p q = subst (Appends a c) (append-nil bs) (then_more a b c bs [] p (is_preserved b c q))
 
 pub read_more : (a b c : Option (List ℕ)) (bs cs : List ℕ) → Consumes a b bs → Consumes b c cs
     → Consumes a c (bs ++ cs)
@@ -61,11 +61,11 @@ read_more (Some x) (Some y) None bs cs p q = absurd q
 read_more (Some x) (Some y) (Some z) bs cs p q =
     p ∙ ap (λ (l : List ℕ). bs ++ l) q ∙ sym (append_assoc bs cs z)
 
-pub read_kept : (a b c : Option (List ℕ)) (bs : List ℕ) → Consumes a b bs → Keeps b c → Consumes a c bs
-read_kept None b c bs p q = tt
-read_kept (Some x) None c bs p q = absurd p
-read_kept (Some x) (Some y) None bs p q = absurd q
-read_kept (Some x) (Some y) (Some z) bs p q = p ∙ ap (λ (l : List ℕ). bs ++ l) (sym q)
+pub read_preserved : (a b c : Option (List ℕ)) (bs : List ℕ) → Consumes a b bs → Keeps b c → Consumes a c bs
+read_preserved None b c bs p q = tt
+read_preserved (Some x) None c bs p q = absurd p
+read_preserved (Some x) (Some y) None bs p q = absurd q
+read_preserved (Some x) (Some y) (Some z) bs p q = p ∙ ap (λ (l : List ℕ). bs ++ l) (sym q)
 
 pub read_none : (a : Option (List ℕ)) → Consumes a a []
 read_none None = tt
@@ -83,8 +83,8 @@ longer_call K L so moment old xid credential (calls.Nfs call) bytes new a = (
     idle = a.1.idle;
     boot = a.1.boot;
     sound = a.1.sound;
-    answered = λ first last entries keeps sound opened.
-        a.1.answered first last entries (so keeps) sound opened;
+    answered = λ first last entries preserves sound opened.
+        a.1.answered first last entries (so preserves) sound opened;
   },
   a.2,
 )
@@ -110,8 +110,8 @@ longer_answers K L so moment old (m ∷ ms) (r ∷ rs) new a = (
   longer_answers K L so moment a.0 ms rs new a.2,
 )
 
-pub longer : (K L : Type 0) → (L → K) → (moment : Moment) (old : Opened) (first : Told)
-    (read left : List ℕ) (count : ℕ) (new : Opened) (written : Told)
+pub longer : (K L : Type 0) → (L → K) → (moment : Moment) (old : Opened) (first : OutputState)
+    (read left : List ℕ) (count : ℕ) (new : Opened) (written : OutputState)
     → IsCourse K moment old first read left count new written
     → IsCourse L moment old first read left count new written
 longer K L so moment old first read left count new written c = record {
@@ -119,14 +119,14 @@ longer K L so moment old first read left count new written c = record {
   replies = c.replies;
   cut = c.cut;
   answered = longer_answers K L so moment old c.messages c.replies new c.answered;
-  told = c.told;
+  replies_sent = c.replies_sent;
   counted = c.counted;
 }
 
 -- ---- what is told
 
-none_told : (w : Told) → HasReplied w [] w
-none_told w = record { appended = none_more w.bytes; calls = []; more = sym (append-nil w.calls); done = refl }
+none_sent : (w : OutputState) → HasReplied w [] w
+none_sent w = record { appended = none_more w.bytes; calls = []; more = sym (append-nil w.calls); done = refl }
 
 one_part : (f : List ℕ → List ℕ) (p : List ℕ) → flat_map f (p ∷ []) ≡ f p
 one_part f p = flat_map-cons f p [] ∙ append-nil (f p)
@@ -145,14 +145,14 @@ sent_next (r ∷ rs) reply calls more done sent = (
 )
 
 -- one reply more is written
-tells_next : (first told written : Told) (replies : List (List ℕ)) (reply : List ℕ) → HasReplied first replies told
-    → Tells told (fragment true reply) (AreSent (fragment true reply)) written
+tells_next : (first output_state written : OutputState) (replies : List (List ℕ)) (reply : List ℕ) → HasReplied first replies output_state
+    → Tells output_state (fragment true reply) (AreSent (fragment true reply)) written
     → HasReplied first (replies ++ reply ∷ []) written
-tells_next first told written replies reply so_far next = record {
+tells_next first output_state written replies reply so_far next = record {
   appended = subst (Appends first.bytes written.bytes)
       (ap (λ (t : List ℕ). text_of replies ++ t) (sym (one_part (fragment true) reply))
       ∙ sym (flat_map-append (fragment true) replies (reply ∷ [])))
-      (then_more first.bytes told.bytes written.bytes (text_of replies) (fragment true reply)
+      (then_more first.bytes output_state.bytes written.bytes (text_of replies) (fragment true reply)
       so_far.appended next.appended);
   calls = so_far.calls ++ next.calls;
   more = next.more ∙ ap (λ (l : Calls). l ++ next.calls) so_far.more
@@ -163,20 +163,20 @@ tells_next first told written replies reply so_far next = record {
 -- ---- a course
 
 -- nothing is read yet
-pub begins : (K : Type 0) (moment : Moment) (old : Opened) (w : Told)
+pub begins : (K : Type 0) (moment : Moment) (old : Opened) (w : OutputState)
     → IsCourse K moment old w [] [] 0 old w
 begins K moment old w = record {
   messages = [];
   replies = [];
   cut = refl;
   answered = refl;
-  told = none_told w;
+  replies_sent = none_sent w;
   counted = omega arith;
 }
 
 -- a piece is read
-pub feeds : (K : Type 0) (moment : Moment) (old : Opened) (first : Told) (read left : List ℕ)
-    (count : ℕ) (new : Opened) (written : Told) (piece : List ℕ)
+pub feeds : (K : Type 0) (moment : Moment) (old : Opened) (first : OutputState) (read left : List ℕ)
+    (count : ℕ) (new : Opened) (written : OutputState) (piece : List ℕ)
     → IsCourse K moment old first read left count new written
     → IsCourse K moment old first (read ++ piece) (left ++ piece) count new written
 feeds K moment old first read left count new written piece c = record {
@@ -184,7 +184,7 @@ feeds K moment old first read left count new written piece c = record {
   replies = c.replies;
   cut = cut_feed read left piece c.messages c.cut;
   answered = c.answered;
-  told = c.told;
+  replies_sent = c.replies_sent;
   counted = c.counted;
 }
 
@@ -199,28 +199,28 @@ answered_next K moment old middle new (n ∷ ns) (q ∷ qs) m r done next =
     (done.0, done.1, answered_next K moment done.0 middle new ns qs m r done.2 next)
 
 -- a message is answered
-pub answers : (K : Type 0) (moment : Moment) (old : Opened) (first : Told) (read left : List ℕ)
-    (count : ℕ) (middle : Opened) (told : Told) (text m more reply : List ℕ) (next : ℕ)
+pub answers : (K : Type 0) (moment : Moment) (old : Opened) (first : OutputState) (read left : List ℕ)
+    (count : ℕ) (middle : Opened) (output_state : OutputState) (text m more reply : List ℕ) (next : ℕ)
     (new : Opened)
-    (written : Told) → IsCourse K moment old first read left count middle told → left ≡ text ++ more
+    (written : OutputState) → IsCourse K moment old first read left count middle output_state → left ≡ text ++ more
     → IsRecord text m → IsMessageAnswered K moment middle (judged m) reply new
-    → Tells told (fragment true reply) (AreSent (fragment true reply)) written → next ≡ min (count + 1) (2 ^ 64 - 1)
+    → Tells output_state (fragment true reply) (AreSent (fragment true reply)) written → next ≡ min (count + 1) (2 ^ 64 - 1)
     → IsCourse K moment old first read more next new written
-answers K moment old first read left count middle told text m more reply next new written c e
-    is answered more_told n =
+answers K moment old first read left count middle output_state text m more reply next new written c e
+    is answered more_sent n =
     record {
       messages = c.messages ++ m ∷ [];
       replies = c.replies ++ reply ∷ [];
       cut = cut_next read left text m more c.messages c.cut e is;
       answered = answered_next K moment old middle new c.messages c.replies m reply c.answered answered;
-      told = tells_next first told written c.replies reply c.told more_told;
+      replies_sent = tells_next first output_state written c.replies reply c.replies_sent more_sent;
       counted = omega (arith, n, c.counted, length-append c.replies (reply ∷ []));
     }
 
 -- ---- what comes of a reply
 
-pub delivers_so : (P Q : List ℕ → Type 0) (first : Told) (result : Result (Unit {0}) SessionFault)
-    (written : Told) → ((reply : List ℕ) → P reply → Q reply) → Delivers P first result written
+pub delivers_so : (P Q : List ℕ → Type 0) (first : OutputState) (result : Result (Unit {0}) SessionFault)
+    (written : OutputState) → ((reply : List ℕ) → P reply → Q reply) → Delivers P first result written
     → Delivers Q first result written
 delivers_so P Q first result written so d = (d.0, so d.0 d.1, d.2)
 
@@ -280,7 +280,7 @@ judged_call K moment old new (verdicts.Call x caller c) xid credential call byte
 -- ---- where the records stop
 
 pub stops_reading : (K : Type 0) (moment : Moment) (fault : SessionFault) (left : List ℕ) (old : Opened)
-    (w : Told) → (fault ≡ faults.NoMemory) ⊎ ((fault ≡ faults.Record) × IsTooLong left)
+    (w : OutputState) → (fault ≡ faults.NoMemory) ⊎ ((fault ≡ faults.Record) × IsTooLong left)
     → StopsAt K moment fault left old w old w
 stops_reading K moment fault left old w (inl e) =
     subst (λ (f : SessionFault). StopsAt K moment f left old w old w) (sym e) (inl (refl, refl))
@@ -289,7 +289,7 @@ stops_reading K moment fault left old w (inr long) =
     ((refl, refl), inl long.1)
 
 pub stops_serving : (K : Type 0) (moment : Moment) (fault : SessionFault) (left text m more : List ℕ)
-    (old : Opened) (first : Told) (new : Opened) (written : Told) → left ≡ text ++ more
+    (old : Opened) (first : OutputState) (new : Opened) (written : OutputState) → left ≡ text ++ more
     → IsRecord text m → Serves K moment old first m (Err fault) new written
     → StopsAt K moment fault left old first new written
 stops_serving K moment faults.NoMemory left text m more old first new written e is (inl d) = inr (record {
@@ -327,14 +327,14 @@ stops_serving K moment faults.Device left text m more old first new written e is
 stops_serving K moment faults.Device left text m more old first new written e is (inr x) = absurd (cc x.0)
 
 -- a message is served
-pub serves : (K : Type 0) (moment : Moment) (old : Opened) (first : Told) (read left : List ℕ)
-    (count : ℕ) (middle : Opened) (told : Told) (text m more : List ℕ) (next : ℕ) (new : Opened)
-    (written : Told) → IsCourse K moment old first read left count middle told → left ≡ text ++ more
-    → IsRecord text m → Serves K moment middle told m (Ok tt) new written → next ≡ min (count + 1) (2 ^ 64 - 1)
+pub serves : (K : Type 0) (moment : Moment) (old : Opened) (first : OutputState) (read left : List ℕ)
+    (count : ℕ) (middle : Opened) (output_state : OutputState) (text m more : List ℕ) (next : ℕ) (new : Opened)
+    (written : OutputState) → IsCourse K moment old first read left count middle output_state → left ≡ text ++ more
+    → IsRecord text m → Serves K moment middle output_state m (Ok tt) new written → next ≡ min (count + 1) (2 ^ 64 - 1)
     → IsCourse K moment old first read more next new written
-serves K moment old first read left count middle told text m more next new written c e is (inl d) n =
-    answers K moment old first read left count middle told text m more d.0 next new written c e is d.1 d.2 n
-serves K moment old first read left count middle told text m more next new written c e is (inr x) n =
+serves K moment old first read left count middle output_state text m more next new written c e is (inl d) n =
+    answers K moment old first read left count middle output_state text m more d.0 next new written c e is d.1 d.2 n
+serves K moment old first read left count middle output_state text m more next new written c e is (inr x) n =
     absurd (cc x.0)
 
 -- ---- where the stream ends
@@ -345,8 +345,8 @@ begun_of left (inl none) some = absurd (true≢false (ap (λ (l : List ℕ). len
 begun_of left (inr begun) some = begun
 
 -- between two messages, of which no more was written
-pub ends_between : (K : Type 0) (moment : Moment) (old : Opened) (unread : Option (List ℕ)) (first : Told)
-    (result : Result ℕ SessionFault) (rest : Option (List ℕ)) (written : Told) (new : Opened) (read left : List ℕ)
+pub ends_between : (K : Type 0) (moment : Moment) (old : Opened) (unread : Option (List ℕ)) (first : OutputState)
+    (result : Result ℕ SessionFault) (rest : Option (List ℕ)) (written : OutputState) (new : Opened) (read left : List ℕ)
     (count : ℕ) → Consumes unread rest read → (c : IsCourse K moment old first read left count new written)
     → EndsAt result left rest first written c.replies
     → IsStream K moment old unread first result rest written new
@@ -362,15 +362,15 @@ ends_between K moment old unread first result rest written new read left count c
 }
 
 -- at a message whose reply isn't written whole
-ends_short : (K : Type 0) (moment : Moment) (old : Opened) (unread : Option (List ℕ)) (first : Told)
-    (result : Result ℕ SessionFault) (rest : Option (List ℕ)) (written : Told) (new : Opened) (read left : List ℕ)
-    (count : ℕ) (middle : Opened) (told : Told) → Consumes unread rest read
-    → (c : IsCourse K moment old first read left count middle told)
-    → (fault : SessionFault) (short : IsCutShort K moment fault left middle told new written)
+ends_short : (K : Type 0) (moment : Moment) (old : Opened) (unread : Option (List ℕ)) (first : OutputState)
+    (result : Result ℕ SessionFault) (rest : Option (List ℕ)) (written : OutputState) (new : Opened) (read left : List ℕ)
+    (count : ℕ) (middle : Opened) (output_state : OutputState) → Consumes unread rest read
+    → (c : IsCourse K moment old first read left count middle output_state)
+    → (fault : SessionFault) (short : IsCutShort K moment fault left middle output_state new written)
     → (IsCutOff fault first (c.replies ++ short.reply ∷ []) written
     → EndsAt result short.more rest first written (c.replies ++ short.reply ∷ []))
     → IsStream K moment old unread first result rest written new
-ends_short K moment old unread first result rest written new read left count middle told consumed c fault short so =
+ends_short K moment old unread first result rest written new read left count middle output_state consumed c fault short so =
     record {
       read = read;
       messages = c.messages ++ short.message ∷ [];
@@ -384,61 +384,61 @@ ends_short K moment old unread first result rest written new read left count mid
         whole = c.replies;
         last = short.reply;
         is = refl;
-        told = told;
-        sent = c.told;
+        output_state = output_state;
+        sent = c.replies_sent;
         unwritten = short.unwritten;
       });
     }
 
 -- the messages that were answered, though nothing is done at the last
-same_course : (K : Type 0) (moment : Moment) (old : Opened) (first : Told) (read left : List ℕ)
-    (count : ℕ) (middle : Opened) (told : Told) (new : Opened) (written : Told)
-    → (c : IsCourse K moment old first read left count middle told) → IsUntouched middle told new written
+same_course : (K : Type 0) (moment : Moment) (old : Opened) (first : OutputState) (read left : List ℕ)
+    (count : ℕ) (middle : Opened) (output_state : OutputState) (new : Opened) (written : OutputState)
+    → (c : IsCourse K moment old first read left count middle output_state) → IsUntouched middle output_state new written
     → IsCourse K moment old first read left count new written
-same_course K moment old first read left count middle told new written c is = record {
+same_course K moment old first read left count middle output_state new written c is = record {
   messages = c.messages;
   replies = c.replies;
   cut = c.cut;
   answered = subst (Answered K moment old c.messages c.replies) (sym is.0) c.answered;
-  told = subst (λ (w : Told). HasReplied first c.replies w) (sym is.1) c.told;
+  replies_sent = subst (λ (w : OutputState). HasReplied first c.replies w) (sym is.1) c.replies_sent;
   counted = c.counted;
 }
 
 -- a fault while records are answered is one of the stream
-pub stopped : (K : Type 0) (moment : Moment) (old : Opened) (unread : Option (List ℕ)) (first : Told)
-    (fault : SessionFault) (rest : Option (List ℕ)) (written : Told) (new : Opened) (read left : List ℕ) (count : ℕ)
+pub stopped : (K : Type 0) (moment : Moment) (old : Opened) (unread : Option (List ℕ)) (first : OutputState)
+    (fault : SessionFault) (rest : Option (List ℕ)) (written : OutputState) (new : Opened) (read left : List ℕ) (count : ℕ)
     (middle : Opened)
-    (told : Told) → Consumes unread rest read
-    → IsCourse K moment old first read left count middle told
-    → StopsAt K moment fault left middle told new written
+    (output_state : OutputState) → Consumes unread rest read
+    → IsCourse K moment old first read left count middle output_state
+    → StopsAt K moment fault left middle output_state new written
     → IsStream K moment old unread first (Err fault) rest written new
-stopped K moment old unread first faults.Record rest written new read left count middle told consumed c stops =
-    let same = same_course K moment old first read left count middle told new written c stops.0 in
+stopped K moment old unread first faults.Record rest written new read left count middle output_state consumed c stops =
+    let same = same_course K moment old first read left count middle output_state new written c stops.0 in
     ends_between K moment old unread first (Err faults.Record) rest written new read left count consumed same
-    (stops.1, same.told)
-stopped K moment old unread first faults.NoMemory rest written new read left count middle told consumed
+    (stops.1, same.replies_sent)
+stopped K moment old unread first faults.NoMemory rest written new read left count middle output_state consumed
     c (inl still) =
-    let same = same_course K moment old first read left count middle told new written c still in
+    let same = same_course K moment old first read left count middle output_state new written c still in
     ends_between K moment old unread first (Err faults.NoMemory) rest written new read left count consumed same
-    (inl same.told)
-stopped K moment old unread first faults.NoMemory rest written new read left count middle told consumed
+    (inl same.replies_sent)
+stopped K moment old unread first faults.NoMemory rest written new read left count middle output_state consumed
     c (inr short) =
     ends_short K moment old unread first (Err faults.NoMemory) rest written new read left count middle
-    told consumed c faults.NoMemory short (λ off. inr off)
-stopped K moment old unread first faults.Output rest written new read left count middle told consumed c short =
+    output_state consumed c faults.NoMemory short (λ off. inr off)
+stopped K moment old unread first faults.Output rest written new read left count middle output_state consumed c short =
     ends_short K moment old unread first (Err faults.Output) rest written new read left count middle
-    told consumed c faults.Output short (λ off. off)
-stopped K moment old unread first faults.Input rest written new read left count middle told consumed c stops =
+    output_state consumed c faults.Output short (λ off. off)
+stopped K moment old unread first faults.Input rest written new read left count middle output_state consumed c stops =
     absurd stops
-stopped K moment old unread first faults.Truncated rest written new read left count middle told
+stopped K moment old unread first faults.Truncated rest written new read left count middle output_state
     consumed c stops =
     absurd stops
-stopped K moment old unread first faults.Device rest written new read left count middle told consumed c stops =
+stopped K moment old unread first faults.Device rest written new read left count middle output_state consumed c stops =
     absurd stops
 
 -- a stream that has ended, behind which the device failed
-pub failed_behind : (K : Type 0) (moment : Moment) (old : Opened) (unread : Option (List ℕ)) (first : Told) (count : ℕ)
-    (rest : Option (List ℕ)) (written : Told) (new : Opened)
+pub failed_behind : (K : Type 0) (moment : Moment) (old : Opened) (unread : Option (List ℕ)) (first : OutputState) (count : ℕ)
+    (rest : Option (List ℕ)) (written : OutputState) (new : Opened)
     → IsStream K moment old unread first (Ok count) rest written new
     → IsStream K moment old unread first (Err faults.Device) rest written new
 failed_behind K moment old unread first count rest written new s = record {

@@ -20,24 +20,24 @@ use Rattle.txn_law.specs.Core.{CoreState}
 use Rattle.circ.specs.Log.Calls.{Pending, idle}
 use Rattle.circ.specs.Log.Log.{settled_place}
 use Rattle.store_promise.specs.GoodImage.{IsGoodImage}
-use Rattle.store_promise.specs.OpenSince.{HasKeptFiles, IsOpenSince, KeepsFiles, LeavesBeginning}
+use Rattle.store_promise.specs.OpenSince.{HasPreservedFiles, IsOpenSince, PreservesFiles, LeavesBeginning}
 use Rattle.store_promise.specs.Openings.{IsLater}
 use Rattle.store_images.specs.Further.{LeavesOpen}
 use Rattle.store_images.specs.Opening.{IsSettled, Opened, store_of}
-use Rattle.store_images.specs.SettlingStops.{KeepsPrefixes}
+use Rattle.store_images.specs.SettlingStops.{PreservesPrefixes}
 use Rattle.store.proofs.CallEvents.{gone_on}
 use Rattle.store_promise.proofs.Later.{past_more, past_none}
 use Rattle.store_images.proofs.Later.{some_image}
 use Rattle.store_images.proofs.Staying.{stops_along}
 use Rattle.store_images.proofs.StillOpen.{same_further}
 use Rattle.store.specs.Calling.{ComesTo, GoesTo, Outset}
-use Rattle.session.specs.declared.serving.SessionFault.{SessionFault}
-use Rattle.session.specs.declared.serving.SessionFault.TheVariants as faults
+use Rattle.session.specs.declared.stream.SessionFault.{SessionFault}
+use Rattle.session.specs.declared.stream.SessionFault.TheVariants as faults
 use Rattle.session.specs.Filing.{AreFiled, Files, HasFiled, IsFiled, IsOpenFor, IsServed, IsSettledBehind}
 use Rattle.session.specs.Filing.{NumbersRise}
 use Rattle.session.specs.Filing.{filed, outset_of}
 use Rattle.session.specs.Replying.{IsMessageAnswered}
-use Rattle.session.specs.Writing.{Told}
+use Rattle.session.specs.Writing.{OutputState}
 use Rattle.session.specs.Streaming.{Answered, IsStream}
 use Rattle.session.proofs.Counted.{added_along, counted}
 use Rattle.session.proofs.Courses.{longer_answers}
@@ -62,10 +62,10 @@ LeavesWhole = (base : Image) (d : Device) (core : CoreState) (logging installing
     → settled_place core.log ≡ core.log.places → IsGoodImage d.size image last boot
 
 -- what was left stays so with more entries
-abbrev pub KeepsLonger : Type 0
-KeepsLonger = (before d : Device) (boot settled fewer : ℕ) (first : Tree) (entries more : List Entry)
-    → HasKeptFiles before d boot first entries settled → fewer ≤ settled
-    → HasKeptFiles before d boot first (entries ++ more) fewer
+abbrev pub PreservesLonger : Type 0
+PreservesLonger = (before d : Device) (boot settled fewer : ℕ) (first : Tree) (entries more : List Entry)
+    → HasPreservedFiles before d boot first entries settled → fewer ≤ settled
+    → HasPreservedFiles before d boot first (entries ++ more) fewer
 
 -- ---- numbers
 
@@ -105,7 +105,7 @@ record FilesOne (moment : Moment) (old : Opened) (files : Files) (j : Judged) (b
   numbers : NumbersRise old.core.begun made new.core.begun
   boot : new.boot ≡ old.boot
   past : IsLater old.device new.device
-  during : KeepsFiles old.device new.device old.boot files.first later.entries (settled_place old.core.log)
+  during : PreservesFiles old.device new.device old.boot files.first later.entries (settled_place old.core.log)
 
 -- nothing has changed
 stays_there : (old : Opened) → GoesTo old old
@@ -117,7 +117,7 @@ stays_there old = record {
 }
 
 stops_there : LeavesFiles → (old : Opened) (files : Files) → IsOpenFor old files
-    → KeepsFiles old.device old.device old.boot files.first files.entries (settled_place old.core.log)
+    → PreservesFiles old.device old.device old.boot files.first files.entries (settled_place old.core.log)
 stops_there stops old files opened = λ clock image above below crash.
     let at : clock ≡ old.device.clock = omega (arith, above, below) in
     stops opened.base old.device old.core idle idle old.boot files.first files.last files.entries image
@@ -149,13 +149,13 @@ sound_last old files opened =
 one : LeavesFiles → (K : Type 0) (moment : Moment) (old : Opened) (files : Files) (j : Judged) (bytes : List ℕ)
     (new : Opened) → K → SoundTime moment → IsOpenFor old files → IsMessageAnswered K moment old j bytes new
     → FilesOne moment old files j bytes new
-one stops K moment old files verdicts.Closed bytes new keeps timely opened a = absurd a
-one stops K moment old files (verdicts.Refused xid refusal) bytes new keeps timely opened a =
+one stops K moment old files verdicts.Closed bytes new preserves timely opened a = absurd a
+one stops K moment old files (verdicts.Refused xid refusal) bytes new preserves timely opened a =
     subst (λ (x : Opened). FilesOne moment old files (verdicts.Refused xid refusal) bytes x) (sym a.1)
     (untouched stops moment old files (verdicts.Refused xid refusal) bytes opened (λ settled. (refl, refl)))
-one stops K moment old files (verdicts.Call xid credential (calls.Nfs call)) bytes new keeps timely
+one stops K moment old files (verdicts.Call xid credential (calls.Nfs call)) bytes new preserves timely
     opened (inl a) =
-    let has = a.1.answered files.first files.last files.entries keeps (a.1.sound timely) opened in
+    let has = a.1.answered files.first files.last files.entries preserves (a.1.sound timely) opened in
     record {
       later = filed files has.entry has.last;
       is = λ settled few. inl (
@@ -177,18 +177,18 @@ one stops K moment old files (verdicts.Call xid credential (calls.Nfs call)) byt
       past = has.files.past;
       during = has.files.stops;
     }
-one stops K moment old files (verdicts.Call xid credential (calls.Nfs call)) bytes new keeps timely
+one stops K moment old files (verdicts.Call xid credential (calls.Nfs call)) bytes new preserves timely
     opened (inr a) =
     subst (λ (x : Opened). FilesOne moment old files (verdicts.Call xid credential (calls.Nfs call))
     bytes x) (sym a.1)
     (untouched stops moment old files (verdicts.Call xid credential (calls.Nfs call)) bytes opened
     (λ settled. inr (a.0, refl, refl)))
-one stops K moment old files (verdicts.Call xid credential (calls.Mount call)) bytes new keeps timely
+one stops K moment old files (verdicts.Call xid credential (calls.Mount call)) bytes new preserves timely
     opened (inl a) =
     subst (λ (x : Opened). FilesOne moment old files (verdicts.Call xid credential (calls.Mount call)) bytes x)
     (sym a.0) (untouched stops moment old files (verdicts.Call xid credential (calls.Mount call)) bytes opened
     (λ settled. (refl, refl)))
-one stops K moment old files (verdicts.Call xid credential (calls.Mount call)) bytes new keeps timely
+one stops K moment old files (verdicts.Call xid credential (calls.Mount call)) bytes new preserves timely
     opened (inr a) =
     subst (λ (x : Opened). FilesOne moment old files (verdicts.Call xid credential (calls.Mount call)) bytes x)
     (sym a.1) (untouched stops moment old files (verdicts.Call xid credential (calls.Mount call)) bytes opened
@@ -209,32 +209,32 @@ record FilesAll (moment : Moment) (old : Opened) (files : Files) (messages repli
   numbers : NumbersRise old.core.begun made new.core.begun
   boot : new.boot ≡ old.boot
   past : IsLater old.device new.device
-  during : KeepsFiles old.device new.device old.boot files.first later.entries (settled_place old.core.log)
+  during : PreservesFiles old.device new.device old.boot files.first later.entries (settled_place old.core.log)
 
 -- what was left before a store, and what is left from it on
-during_both : KeepsLonger → (old mid : Opened) (later : Device) (files between : Files) (made all : List Entry)
+during_both : PreservesLonger → (old mid : Opened) (later : Device) (files between : Files) (made all : List Entry)
     → IsLater mid.device later → settled_place old.core.log ≤ settled_place mid.core.log → mid.boot ≡ old.boot
     → between.first ≡ files.first → all ≡ between.entries ++ made
-    → KeepsFiles old.device mid.device old.boot files.first between.entries (settled_place old.core.log)
-    → KeepsFiles mid.device later mid.boot between.first all (settled_place mid.core.log)
-    → KeepsFiles old.device later old.boot files.first all (settled_place old.core.log)
+    → PreservesFiles old.device mid.device old.boot files.first between.entries (settled_place old.core.log)
+    → PreservesFiles mid.device later mid.boot between.first all (settled_place mid.core.log)
+    → PreservesFiles old.device later old.boot files.first all (settled_place old.core.log)
 during_both longer old mid later files between made all past further boot first grown one two =
     stops_along old.device mid.device later old.boot (settled_place old.core.log) (settled_place mid.core.log)
     files.first all past further
-    (subst (λ (es : List Entry). HasKeptFiles old.device mid.device old.boot files.first es
+    (subst (λ (es : List Entry). HasPreservedFiles old.device mid.device old.boot files.first es
     (settled_place old.core.log)) (sym grown)
     (longer old.device mid.device old.boot (settled_place old.core.log) (settled_place old.core.log) files.first
     between.entries made (λ clock image above below crash. one clock image above (omega (arith, below)) crash)
     (omega arith)))
-    (subst (λ (b : ℕ). KeepsFiles mid.device later b files.first all (settled_place mid.core.log)) boot
-    (subst (λ (tree : Tree). KeepsFiles mid.device later mid.boot tree all
+    (subst (λ (b : ℕ). PreservesFiles mid.device later b files.first all (settled_place mid.core.log)) boot
+    (subst (λ (tree : Tree). PreservesFiles mid.device later mid.boot tree all
     (settled_place mid.core.log)) first two))
 
-all : LeavesFiles → KeepsLonger → (K : Type 0) (moment : Moment) (old : Opened) (files : Files)
+all : LeavesFiles → PreservesLonger → (K : Type 0) (moment : Moment) (old : Opened) (files : Files)
     (messages replies : List (List ℕ)) (new : Opened)
     → K → SoundTime moment → IsOpenFor old files → Answered K moment old messages replies new
     → FilesAll moment old files messages replies new
-all stops longer K moment old files [] [] new keeps timely opened a =
+all stops longer K moment old files [] [] new preserves timely opened a =
     subst (λ (x : Opened). FilesAll moment old files [] [] x) (sym a) (record {
       later = files;
       each = λ settled few. (refl, refl);
@@ -248,11 +248,11 @@ all stops longer K moment old files [] [] new keeps timely opened a =
       past = past_none old.device;
       during = stops_there stops old files opened;
     })
-all stops longer K moment old files [] (r ∷ rs) new keeps timely opened a = absurd a
-all stops longer K moment old files (m ∷ ms) [] new keeps timely opened a = absurd a
-all stops longer K moment old files (m ∷ ms) (r ∷ rs) new keeps timely opened a =
-    let now = one stops K moment old files (judged m) r a.0 keeps timely opened a.1 in
-    let then = all stops longer K moment a.0 now.later ms rs new keeps timely now.opened a.2 in
+all stops longer K moment old files [] (r ∷ rs) new preserves timely opened a = absurd a
+all stops longer K moment old files (m ∷ ms) [] new preserves timely opened a = absurd a
+all stops longer K moment old files (m ∷ ms) (r ∷ rs) new preserves timely opened a =
+    let now = one stops K moment old files (judged m) r a.0 preserves timely opened a.1 in
+    let then = all stops longer K moment a.0 now.later ms rs new preserves timely now.opened a.2 in
     let further = then.goes.further.settled in
     record {
       later = then.later;
@@ -275,17 +275,17 @@ all stops longer K moment old files (m ∷ ms) (r ∷ rs) new keeps timely opene
 -- ---- behind the last message
 
 -- what the stream has made of the files, where this was settled behind it
-pub files_after : LeavesFiles → LeavesWhole → KeepsLonger → (K : Type 0) (moment : Moment) (old : Opened) (files : Files)
+pub files_after : LeavesFiles → LeavesWhole → PreservesLonger → (K : Type 0) (moment : Moment) (old : Opened) (files : Files)
     (messages replies : List (List ℕ)) (served : Opened) (device : Device) (core : CoreState) (boot : ℕ) → K
     → SoundTime moment → IsOpenFor old files → Answered K moment old messages replies served → AreBlocks device
     → boot ≡ served.boot → settled_place served.core.log ≤ settled_place core.log
     → ((later : Files) → IsOpenFor served later → IsOpenFor (store_of device core boot) later)
-    → KeepsPrefixes served.device served.core device core
+    → PreservesPrefixes served.device served.core device core
     → HasFiled moment old files messages replies served (store_of device core boot)
-files_after stops whole longer K moment old files messages replies served device core boot keeps timely
+files_after stops whole longer K moment old files messages replies served device core boot preserves timely
     opened a blocks same
     further behind settles =
-    let done = all stops longer K moment old files messages replies served keeps timely opened a in
+    let done = all stops longer K moment old files messages replies served preserves timely opened a in
     let open_then = behind done.later done.opened in
     let each = done.each (settled_place core.log) further in
     let added = added_along (settled_place core.log) moment old files messages replies served done.later each in
@@ -294,7 +294,7 @@ files_after stops whole longer K moment old files messages replies served device
     let along = each_message old.boot moment served.device added K (settled_place core.log) old files
     messages replies
     served done.later old served refl opened (λ number below. (refl, refl)) a each counts in
-    let kept = settles done.opened.base served.boot done.later.first done.later.last done.later.entries
+    let is_preserved = settles done.opened.base served.boot done.later.first done.later.last done.later.entries
     done.opened.opened.since in
     record {
       later = done.later;
@@ -310,16 +310,16 @@ files_after stops whole longer K moment old files messages replies served device
       grown = done.grown;
       numbers = done.numbers;
       opened = open_then;
-      past = past_more old.device served.device device done.past kept.past;
+      past = past_more old.device served.device device done.past is_preserved.past;
       left = some_image old.device device blocks;
-      during = during_both longer old served device files done.later [] done.later.entries kept.past
+      during = during_both longer old served device files done.later [] done.later.entries is_preserved.past
           done.goes.further.settled done.boot done.first (sym (append-nil done.later.entries))
-          done.during kept.stops;
+          done.during is_preserved.stops;
       behind = subst
-          (λ (b : ℕ). KeepsFiles served.device device b files.first done.later.entries
+          (λ (b : ℕ). PreservesFiles served.device device b files.first done.later.entries
           (settled_place served.core.log)) done.boot
-          (subst (λ (tree : Tree). KeepsFiles served.device device served.boot tree done.later.entries
-          (settled_place served.core.log)) done.first kept.stops);
+          (subst (λ (tree : Tree). PreservesFiles served.device device served.boot tree done.later.entries
+          (settled_place served.core.log)) done.first is_preserved.stops);
       stops = λ image left.
           stops open_then.base device core idle idle boot done.later.first done.later.last
           done.later.entries image
@@ -333,12 +333,12 @@ files_after stops whole longer K moment old files messages replies served device
 -- ---- what came of serving
 
 -- a stream that has ended, and the settling behind it
-pub served_behind : LeavesFiles → LeavesWhole → KeepsLonger → (K L : Type 0) → (L → K) → (moment : Moment) (old : Opened)
-    (unread : Option (List ℕ)) (first : Told) (result : Result ℕ SessionFault) (rest : Option (List ℕ)) (written : Told)
+pub served_behind : LeavesFiles → LeavesWhole → PreservesLonger → (K L : Type 0) → (L → K) → (moment : Moment) (old : Opened)
+    (unread : Option (List ℕ)) (first : OutputState) (result : Result ℕ SessionFault) (rest : Option (List ℕ)) (written : OutputState)
     (served : Opened) (device : Device) (core : CoreState) (boot : ℕ)
     → LeavesOpen served.device served.core device core → boot ≡ served.boot
     → ((later : Files) → IsOpenFor served later → IsOpenFor (store_of device core served.boot) later)
-    → (L → KeepsPrefixes served.device served.core device core) → (L → AreBlocks device)
+    → (L → PreservesPrefixes served.device served.core device core) → (L → AreBlocks device)
     → IsStream K moment old unread first result rest written served → IsSettledBehind result core
     → IsServed L moment old unread first result rest written (store_of device core boot)
 served_behind stops whole longer K L so moment old unread first result rest written served device core boot
@@ -362,13 +362,13 @@ served_behind stops whole longer K L so moment old unread first result rest writ
         failed = leaves.failed;
       };
       settled = settled;
-      files = λ files keeps timely opened.
+      files = λ files preserves timely opened.
           files_after stops whole longer L moment old files stream.messages stream.replies served device
-          core boot keeps
+          core boot preserves
           timely opened (longer_answers K L so moment old stream.messages stream.replies served stream.answered)
-          (blocks keeps) same leaves.further.settled
+          (blocks preserves) same leaves.further.settled
           (λ later is. subst (λ (b : ℕ). IsOpenFor (store_of device core b) later) (sym same) (opens later is))
-          (settles keeps);
+          (settles preserves);
     }
 
 -- behind a fault what can be settled is settled

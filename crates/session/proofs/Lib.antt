@@ -1,4 +1,4 @@
-pub mod Noted
+pub mod Traced
 pub mod Counted
 pub mod Courses
 pub mod Written

@@ -215,8 +215,8 @@ module _ (boot : ℕ) (moment : Moment) (end : Device) (added : ℕ → ℕ) whe
     abbrev left : Option Entry → Tree → Files
     left entry last = filed files entry last
 
-    told_as : (is : Verdict) → verdict ≡ is → bytes ≡ reply_bytes xid (reply_for is)
-    told_as is same = spelled ∙ ap (λ (v : Verdict). reply_bytes xid (reply_for v)) same
+    reply_spelled_as : (is : Verdict) → verdict ≡ is → bytes ≡ reply_bytes xid (reply_for is)
+    reply_spelled_as is same = spelled ∙ ap (λ (v : Verdict). reply_bytes xid (reply_for v)) same
 
     steps : (entry : Entry) (last : Tree) → store.IsMadeFor o new entry last
         → IsOpenFor new (left (Some entry) last)
@@ -253,7 +253,7 @@ module _ (boot : ℕ) (moment : Moment) (end : Device) (added : ℕ → ℕ) whe
         }
 
     -- no place was left, or too few positions
-    lacks_positions : (count : ℕ) (finds : store.FindsNoRoom o new count) (later : Files)
+    lacks_positions : (count : ℕ) (finds : store.FindsNoLogSpace o new count) (later : Files)
         → 2 ^ 64 ≤ finds.at.core.log.start + (finds.at.core.log.logged + finds.at.core.log.taken)
         + tail_after finds.at.core.log (blocks_of finds.done.written)
         → wire.LacksPositions (standing_of new later.last) count
@@ -273,21 +273,21 @@ module _ (boot : ℕ) (moment : Moment) (end : Device) (added : ℕ → ℕ) whe
           none = omega (arith, full, within, is, longer);
         }
 
-    lacks_room : (count : ℕ) → store.FindsNoRoom o new count → (later : Files)
-        → wire.LacksRoom (standing_of new later.last) count
-    lacks_room count finds later = elim (cases_lt (finds.at.core.log.places + 1) (2 ^ 64)) [
+    lacks_log_space : (count : ℕ) → store.FindsNoLogSpace o new count → (later : Files)
+        → wire.LacksLogSpace (standing_of new later.last) count
+    lacks_log_space count finds later = elim (cases_lt (finds.at.core.log.places + 1) (2 ^ 64)) [
       | inl place ↦ elim (cases_lt (finds.at.core.log.start
           + (finds.at.core.log.logged + finds.at.core.log.taken)
           + tail_after finds.at.core.log (blocks_of finds.done.written)) (2 ^ 64)) [
-            | inl room ↦ absurd (finds.none (record { place = place; positions = room }))
+            | inl log_space ↦ absurd (finds.none (record { place = place; positions = log_space }))
             | inr full ↦ inr (lacks_positions count finds later full)
           ]
       | inr full ↦ inl (let more = finds.until.further.places in omega (arith, full, more))
     ]
 
-    no_room : (count : ℕ) → store.FindsNoRoom o new count → (later : Files) → added (new.core.begun + 1) ≡ count
-        → wire.FindsNoRoom s (standing_of old files.last) credential asked (standing_of new later.last)
-    no_room count finds later same =
+    no_log_space : (count : ℕ) → store.FindsNoLogSpace o new count → (later : Files) → added (new.core.begun + 1) ≡ count
+        → wire.FindsNoLogSpace s (standing_of old files.last) credential asked (standing_of new later.last)
+    no_log_space count finds later same =
         let planned = finds.planned in
         let fresh = planned.begun_for.fresh in
         let taken = planned.begun_for.taken in
@@ -300,12 +300,12 @@ module _ (boot : ℕ) (moment : Moment) (end : Device) (added : ℕ → ℕ) whe
           tree = planned.next;
           step = subst (λ (b : ℕ). procedures.step files.last (ctx_of b o.asked planned.begun) asked
               finds.done.reply planned.next) boot_is planned.goes;
-          lacks = subst (λ (n : ℕ). wire.LacksRoom (standing_of new later.last) n) (sym same)
-              (lacks_room count finds later);
+          lacks = subst (λ (n : ℕ). wire.LacksLogSpace (standing_of new later.last) n) (sym same)
+              (lacks_log_space count finds later);
         }
 
     -- the store wasn't broken before the call
-    sound_before : (count : ℕ) → store.FindsNoRoom o new count → old.core.log.broken ≡ false
+    sound_before : (count : ℕ) → store.FindsNoLogSpace o new count → old.core.log.broken ≡ false
     sound_before count finds = elim (cases_Bool old.core.log.broken) [
       | inl broken ↦ absurd (true≢false (sym (finds.since.further.broken broken) ∙ finds.sound))
       | inr sound ↦ sound
@@ -315,7 +315,7 @@ module _ (boot : ℕ) (moment : Moment) (end : Device) (added : ℕ → ℕ) whe
     abbrev Counts : ℕ → Type 0
     Counts count = old.core.begun < new.core.begun → added (new.core.begun + 1) ≡ count
 
-    spent : (count : ℕ) → store.FindsNoNumber o new ⊎ store.FindsNoRoom o new count → (later : Files) → Counts count
+    spent : (count : ℕ) → store.FindsNoNumber o new ⊎ store.FindsNoLogSpace o new count → (later : Files) → Counts count
         → wire.IsSpent s (standing_of old files.last) credential asked (standing_of new later.last)
     spent count (inl finds) later counts = record { sound = finds.sound; spent = inl finds.none }
     spent count (inr finds) later counts =
@@ -324,7 +324,7 @@ module _ (boot : ℕ) (moment : Moment) (end : Device) (added : ℕ → ℕ) whe
         let more = finds.until.further.begun in
         record {
           sound = sound_before count finds;
-          spent = inr (no_room count finds later (counts (omega (arith, fresh, taken, more))));
+          spent = inr (no_log_space count finds later (counts (omega (arith, fresh, taken, more))));
         }
 
     refused_so : (why : Cause) (later : Files) → IsLater old.device new.device → AgreesWith new
@@ -333,11 +333,11 @@ module _ (boot : ℕ) (moment : Moment) (end : Device) (added : ℕ → ℕ) whe
         → wire.IsTransactionReply s (standing_of old files.last) xid credential asked bytes
         (standing_of new later.last)
     refused_so cause.Io later past same is count because counts at =
-        wire.Failed at (has_failed old new files later past same because) (told_as (refusal asked cause.Io) is)
+        wire.Failed at (has_failed old new files later past same because) (reply_spelled_as (refusal asked cause.Io) is)
     refused_so cause.Spent later past same is count because counts at =
-        wire.Spent at (spent count because later counts) (told_as (refusal asked cause.Spent) is)
+        wire.Spent at (spent count because later counts) (reply_spelled_as (refusal asked cause.Spent) is)
     refused_so cause.NoMemory later past same is count because counts at =
-        wire.NoMemory at (told_as (refusal asked cause.NoMemory) is)
+        wire.NoMemory at (reply_spelled_as (refusal asked cause.NoMemory) is)
 
     by_rules : (rules : Bool) (later : Files) → begins_transaction asked ≡ rules
         → wire.IsNfsReply s (standing_of old files.last) rules xid credential asked bytes
@@ -356,24 +356,24 @@ module _ (boot : ℕ) (moment : Moment) (end : Device) (added : ℕ → ℕ) whe
     by_entry (Some entry) last made after goes past same (inl reply) counts =
         by_rules true (left (Some entry) last) made.begun_for.begins (wire.Done entry.reply
         (steps entry last made after (goes_on old new files (left (Some entry) last) goes past same))
-        (told_as (verdicts.Reply entry.reply) reply.told_is))
+        (reply_spelled_as (verdicts.Reply entry.reply) reply.verdict_is_reply))
     by_entry (Some entry) last made after goes past same (inr un) counts =
         by_rules true (left (Some entry) last) made.begun_for.begins
         (wire.Unsettled entry.reply
         (steps entry last made after (goes_on old new files (left (Some entry) last) goes past same))
         (has_broken old new files (left (Some entry) last) same un.failed) un.stable
-        (told_as (verdicts.Reply (refused status.Io asked)) un.told_is))
+        (reply_spelled_as (verdicts.Reply (refused status.Io asked)) un.verdict_is_reply))
     by_entry None last comes after goes past same (inl un) counts =
         by_rules false (left None last) un.begins (
           record {
             stays = stays last comes after (goes_on old new files (left None last) goes past same);
             numbers = ap (λ (n : ℕ). n + 1) un.begun;
           },
-          inl (told_as (verdicts.Reply Null) un.told_is),
+          inl (reply_spelled_as (verdicts.Reply Null) un.verdict_is_reply),
         )
     by_entry None last comes after goes past same (inr why) counts =
         by_rules true (left None last) why.begins
-        (refused_so why.why (left None last) past same why.told_is why.added why.because counts
+        (refused_so why.why (left None last) past same why.verdict_is_reply why.added why.because counts
         (stays last comes after (goes_on old new files (left None last) goes past same)))
 
   -- a call for which memory was refused leaves all as it was
@@ -449,8 +449,8 @@ module _ (boot : ℕ) (moment : Moment) (end : Device) (added : ℕ → ℕ) whe
       let left = leaves settled moment old files (judged message) reply middle between is_open filed in
       let past = past_all settled moment middle between messages replies new later left.is_open all in
       let at_middle : AgreesWith middle = λ number below.
-      let told = same number (let clock = past.clock in omega (arith, below, clock)) in
-      (told.0 ∙ past.failed number below, told.1 ∙ past.lost number below) in (
+      let proven = same number (let clock = past.clock in omega (arith, below, clock)) in
+      (proven.0 ∙ past.failed number below, proven.1 ∙ past.lost number below) in (
         one_message K settled old files (judged message) reply middle between one mid is is_open at_middle
             answered filed count,
         each_message K settled middle between messages replies new later mid other (left.boot ∙ is) left.is_open

@@ -14,7 +14,7 @@ use Rattle.xdr.specs.Codes.{Code, word, double, flag, nothing, ◌then◌, optio
 use Rattle.xdr.specs.Items as items
 use Rattle.nfs_codec.specs.Items.{moment, device, kind, attributes, optional_attributes, weak_cache_attributes}
 use Rattle.nfs_codec.specs.Items.{before_attributes, handle, text, verifier, weak_cache}
-use Rattle.nfs_results.specs.Results.{alone, behind, before}
+use Rattle.nfs_results.specs.Results.{default_void, behind, before}
 use Rattle.nfs_codec.specs.Statuses.{status_number}
 use Rattle.rpc.proofs.Lengths.{word-length}
 
@@ -132,35 +132,35 @@ all_attributes x = record {
   counts = refl;
 }
 
-pub attributes_told : AreShort 88 optional_attributes
+pub short_attributes : AreShort 88 optional_attributes
 unfolding optional_attributes
-attributes_told = all_optionals 84 attributes all_attributes
+short_attributes = all_optionals 84 attributes all_attributes
 
-before_told : AreShort 28 before_attributes
+short_before : AreShort 28 before_attributes
 unfolding before_attributes weak_cache_attributes moment
-before_told = all_optionals 24 weak_cache_attributes (λ x. record {
+short_before = all_optionals 24 weak_cache_attributes (λ x. record {
   short = simp (length-append, word-length, double-length) (omega arith);
   counts = refl;
 })
 
-pub changes_told : AreShort 116 weak_cache
+pub short_changes : AreShort 116 weak_cache
 unfolding weak_cache
-changes_told x =
-    let both = thens 28 88 before_attributes optional_attributes x.before x.after (before_told x.before)
-    (attributes_told x.after) in
+short_changes x =
+    let both = thens 28 88 before_attributes optional_attributes x.before x.after (short_before x.before)
+    (short_attributes x.after) in
     record { short = both.short; counts = both.counts }
 
 -- ---- outcomes
 
-pub alones : {A : Type 0} (m : ℕ) (F : Code A) (outcome : Result A Status) → IfOk outcome (IsShort m F)
-    → IsShort (4 + m) (alone F) outcome
-alones m F (Ok x) is =
+pub default_voids : {A : Type 0} (m : ℕ) (F : Code A) (outcome : Result A Status) → IfOk outcome (IsShort m F)
+    → IsShort (4 + m) (default_void F) outcome
+default_voids m F (Ok x) is =
     let a = is.short in
     record {
       short = omega (arith, a, word-length 0, length-append (items.word 0) (F.spell x));
       counts = is.counts;
     }
-alones m F (Err s) is = record {
+default_voids m F (Err s) is = record {
   short = omega (
     arith,
     word-length (status_number s),

@@ -4,66 +4,66 @@ use Rattle.std.proofs.Common.{length, map, Option, Some, None, IfSome, Ok, Err, 
 use Rattle.std.proofs.Common.{rules}
 use Rattle.std.proofs.lemmas.Bool.Decides.{nat_tests}
 use Rattle.std.specs.Option.{option_map}
-use Rattle.base.specs.declared.TheConstants.{ENTRY_BYTES, ENTRY_PLUS_BYTES, LISTING_BYTES, LISTING_FRAME}
-use Rattle.nfs_types.specs.declared.entries.ListedEntry.{ListedEntry}
-use Rattle.nfs_types.specs.declared.entries.ListedEntryPlus.{ListedEntryPlus}
+use Rattle.base.specs.declared.TheConstants.{LISTED_ITEM_BYTES, LISTED_ITEM_PLUS_BYTES, LISTING_BYTES, LISTING_FRAME}
+use Rattle.nfs_types.specs.declared.entries.ListedItem.{ListedItem}
+use Rattle.nfs_types.specs.declared.entries.ListedItemPlus.{ListedItemPlus}
 use Rattle.nfs_types.specs.declared.verifier.Verifier.{Verifier}
 use Rattle.nfs_spec.specs.Model.Node.{Node}
 use Rattle.nfs_spec.specs.Model.Tree.{Tree, node_at}
-use Rattle.nfs_spec.specs.Procedures.Listing.{entry_bytes, entry_room, fitting, listing_verifier, padded}
-use Rattle.nfs_spec.specs.Procedures.ReadDirPlus.{entry_plus_bytes, fitting_both, plus}
-use Rattle.nfs_spec.specs.Procedures.Told.{attributes_at, handle_of}
+use Rattle.nfs_spec.specs.Procedures.Listing.{listed_bytes, listing_budget, fitting, listing_verifier, padded}
+use Rattle.nfs_spec.specs.Procedures.ReadDirPlus.{listed_plus_bytes, fitting_both, plus}
+use Rattle.nfs_spec.specs.Procedures.StepForms.{attributes_at, handle_of}
 use Rattle.xdr.specs.Codes.{Code, chain, chain_bytes, double, flag, ◌then◌, optional, some_too_long}
 use Rattle.xdr.specs.Items as items
 use Rattle.nfs_codec.specs.Items.{handle, optional_attributes, optional_handle, text, verifier}
 use Rattle.nfs_results.specs.Results.{entries, entries_plus, entry, entry_plus, listed, listed_plus}
-use Rattle.session.proofs.ShortCodes.{IsShort, attributes_told, doubles, flags, handed_out, optionals, or_false, texts}
+use Rattle.session.proofs.ShortCodes.{IsShort, short_attributes, doubles, flags, handed_out, optionals, or_false, texts}
 use Rattle.session.proofs.ShortCodes.{flag-length, thens, verifiers}
 
 -- ---- entries that have room together
 
 -- the bytes of all of them
-abbrev total : (ListedEntry → ℕ) → List ListedEntry → ℕ
+abbrev total : (ListedItem → ℕ) → List ListedItem → ℕ
 total cost [] = 0
 total cost (one ∷ others) = cost one + total cost others
 
 -- those that are given have no more than there is room for
-in_room : (cost : ListedEntry → ℕ) (room : ℕ) (left : List ListedEntry) → total cost (fitting cost room left) ≤ room
-in_room cost room [] = omega arith
-in_room cost room (one ∷ others) = by (nat_le (cost one) room) refl (in_room cost (room - cost one) others)
+in_budget : (cost : ListedItem → ℕ) (budget : ℕ) (left : List ListedItem) → total cost (fitting cost budget left) ≤ budget
+in_budget cost budget [] = omega arith
+in_budget cost budget (one ∷ others) = by (nat_le (cost one) budget) refl (in_budget cost (budget - cost one) others)
   where
-    by : (fits : Bool) → nat_le (cost one) room ≡ fits
-        → total cost (fitting cost (room - cost one) others) ≤ room - cost one
-        → total cost (cond fits (one ∷ fitting cost (room - cost one) others) []) ≤ room
-    by true is rest = let less : cost one ≤ room = grind (arith, nat_tests) in omega (arith, less, rest)
+    by : (fits : Bool) → nat_le (cost one) budget ≡ fits
+        → total cost (fitting cost (budget - cost one) others) ≤ budget - cost one
+        → total cost (cond fits (one ∷ fitting cost (budget - cost one) others) []) ≤ budget
+    by true is rest = let less : cost one ≤ budget = grind (arith, nat_tests) in omega (arith, less, rest)
     by false is rest = omega arith
 
 -- and no more than all that are left, by whatever room they were chosen
-no_more : (cost chosen : ListedEntry → ℕ) (room : ℕ) (left : List ListedEntry)
-    → total cost (fitting chosen room left) ≤ total cost left
-no_more cost chosen room [] = omega arith
-no_more cost chosen room (one ∷ others) =
-    by (nat_le (chosen one) room) (no_more cost chosen (room - chosen one) others)
+no_more : (cost chosen : ListedItem → ℕ) (budget : ℕ) (left : List ListedItem)
+    → total cost (fitting chosen budget left) ≤ total cost left
+no_more cost chosen budget [] = omega arith
+no_more cost chosen budget (one ∷ others) =
+    by (nat_le (chosen one) budget) (no_more cost chosen (budget - chosen one) others)
   where
-    by : (fits : Bool) → total cost (fitting chosen (room - chosen one) others) ≤ total cost others
-        → total cost (cond fits (one ∷ fitting chosen (room - chosen one) others) []) ≤ total cost (one ∷ others)
+    by : (fits : Bool) → total cost (fitting chosen (budget - chosen one) others) ≤ total cost others
+        → total cost (cond fits (one ∷ fitting chosen (budget - chosen one) others) []) ≤ total cost (one ∷ others)
     by true rest = omega (arith, rest)
     by false rest = omega arith
 
 -- each entry is spelled in no more bytes than it is counted with, behind a flag, where these can be counted
-abbrev CostsAsMuch : {E : Type 0} → Code E → (ListedEntry → E) → (ListedEntry → ℕ) → Type 0
-CostsAsMuch F told cost = (one : ListedEntry) → cost one ≤ LISTING_BYTES
-    → (4 + length (F.spell (told one)) ≤ cost one) × (F.too_long (told one) ≡ false)
+abbrev CostsAsMuch : {E : Type 0} → Code E → (ListedItem → E) → (ListedItem → ℕ) → Type 0
+CostsAsMuch F listed_as cost = (one : ListedItem) → cost one ≤ LISTING_BYTES
+    → (4 + length (F.spell (listed_as one)) ≤ cost one) × (F.too_long (listed_as one) ≡ false)
 
-chained : {E : Type 0} (F : Code E) (told : ListedEntry → E) (cost : ListedEntry → ℕ) → CostsAsMuch F told cost
-    → (given : List ListedEntry) → total cost given ≤ LISTING_BYTES
-    → IsShort (4 + total cost given) (chain F) (map told given)
-chained F told cost as_much [] few = record { short = omega (arith, flag-length false); counts = refl }
-chained F told cost as_much (one ∷ others) few =
+chained : {E : Type 0} (F : Code E) (listed_as : ListedItem → E) (cost : ListedItem → ℕ) → CostsAsMuch F listed_as cost
+    → (given : List ListedItem) → total cost given ≤ LISTING_BYTES
+    → IsShort (4 + total cost given) (chain F) (map listed_as given)
+chained F listed_as cost as_much [] few = record { short = omega (arith, flag-length false); counts = refl }
+chained F listed_as cost as_much (one ∷ others) few =
     let sum : cost one + total cost others ≤ LISTING_BYTES = few in
     let of_one = as_much one (omega (arith, sum)) in
     let first = of_one.0 in
-    let behind = chained F told cost as_much others (omega (arith, sum)) in
+    let behind = chained F listed_as cost as_much others (omega (arith, sum)) in
     let rest = behind.short in
     record {
       short = omega (
@@ -71,110 +71,110 @@ chained F told cost as_much (one ∷ others) few =
         first,
         rest,
         flag-length true,
-        length-append (items.flag true) (F.spell (told one) ++ chain_bytes F (map told others)),
-        length-append (F.spell (told one)) (chain_bytes F (map told others)),
+        length-append (items.flag true) (F.spell (listed_as one) ++ chain_bytes F (map listed_as others)),
+        length-append (F.spell (listed_as one)) (chain_bytes F (map listed_as others)),
       );
-      counts = or_false (F.too_long (told one)) (some_too_long F (map told others)) of_one.1 behind.counts;
+      counts = or_false (F.too_long (listed_as one)) (some_too_long F (map listed_as others)) of_one.1 behind.counts;
     }
 
 -- ---- an entry
 
-entry_costs : CostsAsMuch entry (λ one. one) entry_bytes
+listed_costs : CostsAsMuch entry (λ one. one) listed_bytes
 unfolding entry
-entry_costs one few =
+listed_costs one few =
     let name = texts one.name (omega (arith, few)) in
     let spelled = thens 8 (4 + padded one.name + 8) double (text then double) one.number (one.name, one.cookie)
     (doubles one.number) (thens (4 + padded one.name) 8 text double one.name one.cookie name (doubles one.cookie)) in
     let short = spelled.short in
     (omega (arith, short), spelled.counts)
 
-handle_told : (number : ℕ) (found : Option Node) → IfSome (option_map (handle_of number) found) (IsShort 24 handle)
-handle_told number None = tt
-handle_told number (Some node) = handed_out number node.stamp
+short_handle : (number : ℕ) (found : Option Node) → IfSome (option_map (handle_of number) found) (IsShort 24 handle)
+short_handle number None = tt
+short_handle number (Some node) = handed_out number node.stamp
 
-entry_plus_costs : (tree : Tree) → CostsAsMuch entry_plus (plus tree) entry_plus_bytes
+listed_plus_costs : (tree : Tree) → CostsAsMuch entry_plus (plus tree) listed_plus_bytes
 unfolding entry_plus optional_handle
-entry_plus_costs tree one few =
+listed_plus_costs tree one few =
     let attributes = attributes_at tree one.number in
-    let told = option_map (handle_of one.number) (node_at tree one.number) in
+    let handle_given = option_map (handle_of one.number) (node_at tree one.number) in
     let name = texts one.name (omega (arith, few)) in
-    let behind_cookie = thens 88 28 optional_attributes (optional handle) attributes told
-    (attributes_told attributes) (optionals 24 handle told (handle_told one.number (node_at tree one.number))) in
-    let behind_name = thens 8 116 double (optional_attributes then optional handle) one.cookie (attributes, told)
+    let behind_cookie = thens 88 28 optional_attributes (optional handle) attributes handle_given
+    (short_attributes attributes) (optionals 24 handle handle_given (short_handle one.number (node_at tree one.number))) in
+    let behind_name = thens 8 116 double (optional_attributes then optional handle) one.cookie (attributes, handle_given)
     (doubles one.cookie) behind_cookie in
     let behind_number = thens (4 + padded one.name) 124 text (double then optional_attributes then optional handle)
-    one.name (one.cookie, (attributes, told)) name behind_name in
+    one.name (one.cookie, (attributes, handle_given)) name behind_name in
     let spelled = thens 8 (4 + padded one.name + 124) double
     (text then double then optional_attributes then optional handle) one.number
-    (one.name, (one.cookie, (attributes, told))) (doubles one.number) behind_number in
+    (one.name, (one.cookie, (attributes, handle_given))) (doubles one.number) behind_number in
     let short = spelled.short in
     (omega (arith, short), spelled.counts)
 
 -- ---- listings
 
-as_they_are : (given : List ListedEntry) → map (λ one. one) given ≡ given
+as_they_are : (given : List ListedItem) → map (λ one. one) given ≡ given
 as_they_are [] = refl
 as_they_are (one ∷ others) = ap (λ rest. one ∷ rest) (as_they_are others)
 
-room_few : (count : ℕ) → entry_room count ≤ LISTING_BYTES
-room_few count = search rules
+budget_few : (count : ℕ) → listing_budget count ≤ LISTING_BYTES
+budget_few count = search rules
 
 zeros_long : length (listing_verifier).bytes ≡ 8
 zeros_long = refl
 
-entries_short : (count : ℕ) (left : List ListedEntry)
-    → IsShort (4 + LISTING_BYTES) entries (fitting entry_bytes (entry_room count) left)
+entries_short : (count : ℕ) (left : List ListedItem)
+    → IsShort (4 + LISTING_BYTES) entries (fitting listed_bytes (listing_budget count) left)
 unfolding entries
 entries_short count left =
-    let given = fitting entry_bytes (entry_room count) left in
-    let most = in_room entry_bytes (entry_room count) left in
-    let room = room_few count in
-    let all = chained entry (λ one. one) entry_bytes entry_costs given (omega (arith, most, room)) in
-    let short : length (chain_bytes entry given) ≤ 4 + total entry_bytes given =
-    subst (λ told. length (chain_bytes entry told) ≤ 4 + total entry_bytes given) (as_they_are given) all.short in
+    let given = fitting listed_bytes (listing_budget count) left in
+    let most = in_budget listed_bytes (listing_budget count) left in
+    let budget = budget_few count in
+    let all = chained entry (λ one. one) listed_bytes listed_costs given (omega (arith, most, budget)) in
+    let short : length (chain_bytes entry given) ≤ 4 + total listed_bytes given =
+    subst (λ entries_listed. length (chain_bytes entry entries_listed) ≤ 4 + total listed_bytes given) (as_they_are given) all.short in
     record {
-      short = omega (arith, short, most, room);
-      counts = subst (λ told. some_too_long entry told ≡ false) (as_they_are given) all.counts;
+      short = omega (arith, short, most, budget);
+      counts = subst (λ entries_listed. some_too_long entry entries_listed ≡ false) (as_they_are given) all.counts;
     }
 
-entries_plus_short : (tree : Tree) (names_count count : ℕ) (left : List ListedEntry)
-    → IsShort (4 + LISTING_BYTES) entries_plus (map (plus tree) (fitting_both names_count (entry_room count) left))
+entries_plus_short : (tree : Tree) (names_count count : ℕ) (left : List ListedItem)
+    → IsShort (4 + LISTING_BYTES) entries_plus (map (plus tree) (fitting_both names_count (listing_budget count) left))
 unfolding entries_plus
 entries_plus_short tree names_count count left =
-    let chosen = fitting entry_plus_bytes (entry_room count) left in
-    let given = fitting entry_bytes names_count chosen in
-    let most = in_room entry_plus_bytes (entry_room count) left in
-    let fewer = no_more entry_plus_bytes entry_bytes names_count chosen in
-    let room = room_few count in
-    let all = chained entry_plus (plus tree) entry_plus_bytes (entry_plus_costs tree) given
-    (omega (arith, most, fewer, room)) in
+    let chosen = fitting listed_plus_bytes (listing_budget count) left in
+    let given = fitting listed_bytes names_count chosen in
+    let most = in_budget listed_plus_bytes (listing_budget count) left in
+    let fewer = no_more listed_plus_bytes listed_bytes names_count chosen in
+    let budget = budget_few count in
+    let all = chained entry_plus (plus tree) listed_plus_bytes (listed_plus_costs tree) given
+    (omega (arith, most, fewer, budget)) in
     let short = all.short in
-    record { short = omega (arith, short, most, fewer, room); counts = all.counts }
+    record { short = omega (arith, short, most, fewer, budget); counts = all.counts }
 
 -- its verifier, its entries, and whether it is the end
-pub listing_short : (count : ℕ) (left : List ListedEntry) (eof : Bool) → IsShort (LISTING_BYTES + 16) listed (record {
+pub listing_short : (count : ℕ) (left : List ListedItem) (eof : Bool) → IsShort (LISTING_BYTES + 16) listed (record {
   verifier = listing_verifier;
-  entries = fitting entry_bytes (entry_room count) left;
+  entries = fitting listed_bytes (listing_budget count) left;
   eof = eof;
 })
 unfolding listed
 listing_short count left eof =
-    let given = fitting entry_bytes (entry_room count) left in
+    let given = fitting listed_bytes (listing_budget count) left in
     let behind = thens (4 + LISTING_BYTES) 4 entries flag given eof (entries_short count left) (flags eof) in
     let all = thens 8 (4 + LISTING_BYTES + 4) verifier (entries then flag) listing_verifier (given, eof)
     (verifiers listing_verifier zeros_long) behind in
     let short = all.short in
     record { short = omega (arith, short); counts = all.counts }
 
-pub listing_plus_short : (tree : Tree) (names_count count : ℕ) (left : List ListedEntry) (eof : Bool)
+pub listing_plus_short : (tree : Tree) (names_count count : ℕ) (left : List ListedItem) (eof : Bool)
     → IsShort (LISTING_BYTES + 16) listed_plus (record {
       verifier = listing_verifier;
-      entries = map (plus tree) (fitting_both names_count (entry_room count) left);
+      entries = map (plus tree) (fitting_both names_count (listing_budget count) left);
       eof = eof;
     })
 unfolding listed_plus
 listing_plus_short tree names_count count left eof =
-    let given = map (plus tree) (fitting_both names_count (entry_room count) left) in
+    let given = map (plus tree) (fitting_both names_count (listing_budget count) left) in
     let behind = thens (4 + LISTING_BYTES) 4 entries_plus flag given eof
     (entries_plus_short tree names_count count left) (flags eof) in
     let all = thens 8 (4 + LISTING_BYTES + 4) verifier (entries_plus then flag) listing_verifier (given, eof)

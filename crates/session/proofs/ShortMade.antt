@@ -13,22 +13,22 @@ use Rattle.nfs_types.specs.declared.reply.Written.{Written}
 use Rattle.nfs_types.specs.declared.status.Status.{Status}
 use Rattle.nfs_types.specs.declared.status.Status.TheVariants as status
 use Rattle.nfs_types.specs.Verifier.{boot_verifier}
-use Rattle.nfs_spec.specs.Model.Node.{DirectoryEntry, Node}
+use Rattle.nfs_spec.specs.Model.Node.{DirentValue, Node}
 use Rattle.nfs_spec.specs.Model.SetAttr.{is_regular, refusal, with_attributes}
 use Rattle.nfs_spec.specs.Model.Tree.{Tree}
-use Rattle.nfs_spec.specs.Procedures.Changes.{if_entry, if_room, lacks_room}
+use Rattle.nfs_spec.specs.Procedures.Changes.{if_dirent, if_space, lacks_space}
 use Rattle.nfs_spec.specs.Procedures.Create.{becomes, no_bytes, create_at, create_new, create_over, is_made_with, only_size, resize}
 use Rattle.nfs_spec.specs.Procedures.FirstTests.{unless}
 use Rattle.nfs_spec.specs.Procedures.Fresh as making
 use Rattle.nfs_spec.specs.Procedures.Fresh.{nothing_given}
 use Rattle.nfs_spec.specs.Procedures.Places.{least_free_slot}
-use Rattle.nfs_spec.specs.Procedures.Told.{Effect, handle_of}
+use Rattle.nfs_spec.specs.Procedures.StepForms.{Effect, handle_of}
 use Rattle.nfs_spec.specs.Procedures.Write as writing
 use Rattle.xdr.specs.Codes.{word, ◌then◌, optional}
 use Rattle.nfs_codec.specs.Items.{handle, optional_attributes, optional_handle, stability, verifier}
 use Rattle.nfs_results.specs.Results.{created, written}
 use Rattle.rpc.proofs.Lengths.{word-length}
-use Rattle.session.proofs.ShortCodes.{AreShort, IsShort, attributes_told, handed_out, optionals, thens, verifiers, words}
+use Rattle.session.proofs.ShortCodes.{AreShort, IsShort, short_attributes, handed_out, optionals, thens, verifiers, words}
 
 -- ---- a file that was made or found
 
@@ -38,7 +38,7 @@ created_short number node =
     let one = making.created number node in
     let object = optionals 24 handle (Some (handle_of number node)) (handed_out number node.stamp) in
     let all = thens 28 88 (optional handle) optional_attributes one.object one.attributes object
-    (attributes_told one.attributes) in
+    (short_attributes one.attributes) in
     record { short = all.short; counts = all.counts }
 
 -- an effect tells so, if there is one
@@ -55,24 +55,24 @@ either : {A : Type 0} (P : A → Type 0) (test : Bool) (one other : Result A Sta
 either P true one other a b = a
 either P false one other a b = b
 
-pub with_room : {A : Type 0} (P : Effect A → Type 0) (tree : Tree) (effect : Effect A) → P effect
-    → IfOk (if_room tree effect) P
-with_room P tree effect is = either P (lacks_room tree effect.next) (Err status.NoSpc) (Ok effect) tt is
+pub with_space : {A : Type 0} (P : Effect A → Type 0) (tree : Tree) (effect : Effect A) → P effect
+    → IfOk (if_space tree effect) P
+with_space P tree effect is = either P (lacks_space tree effect.next) (Err status.NoSpc) (Ok effect) tt is
 
-with_entry : {A : Type 0} (P : Effect A → Type 0) (tree : Tree) (entry : Option DirectoryEntry)
-    (effect : DirectoryEntry → Effect A) → ((one : DirectoryEntry) → P (effect one))
-    → IfOk (if_entry tree entry effect) P
-with_entry P tree None effect each = tt
-with_entry P tree (Some entry) effect each = with_room P tree (effect entry) (each entry)
+with_dirent : {A : Type 0} (P : Effect A → Type 0) (tree : Tree) (entry : Option DirentValue)
+    (effect : DirentValue → Effect A) → ((one : DirentValue) → P (effect one))
+    → IfOk (if_dirent tree entry effect) P
+with_dirent P tree None effect each = tt
+with_dirent P tree (Some entry) effect each = with_space P tree (effect entry) (each entry)
 
 pub made_short : (tree : Tree) (ctx : Ctx) (new : Option ℕ) (at : ℕ) (directory : Node) (name : List ℕ)
     (wanted : NewAttributes) (node : Node) → TellsShort (making.make tree ctx new at directory name wanted node)
 made_short tree ctx new at directory name wanted node =
     if_not (λ (one : Effect Created). IsShort 116 created one.answer) (refusal ctx wanted None node)
-    (if_entry tree (making.new_entry new (least_free_slot directory.body))
+    (if_dirent tree (making.new_dirent new (least_free_slot directory.body))
     (making.with_new tree ctx at name (making.made ctx wanted node)))
-    (with_entry (λ (one : Effect Created). IsShort 116 created one.answer) tree
-    (making.new_entry new (least_free_slot directory.body))
+    (with_dirent (λ (one : Effect Created). IsShort 116 created one.answer) tree
+    (making.new_dirent new (least_free_slot directory.body))
     (making.with_new tree ctx at name (making.made ctx wanted node))
     (λ entry. created_short entry.number (making.made ctx wanted node)))
 

@@ -3,7 +3,7 @@ use Rattle.std.proofs.Common.{◌≡◌, inl, inr, ℕ, ◌+◌, ◌*◌, ◌/�
 use Rattle.std.proofs.Common.{◌++◌, length, Option, Some}
 use Rattle.std.proofs.Common.{None, min, take, drop}
 use Rattle.std.proofs.Common.{map as list_map}
-use Rattle.nfs_results.specs.Results.{alone, behind, before}
+use Rattle.nfs_results.specs.Results.{default_void, behind, before}
 use Rattle.std.proofs.Common.{IfOk, Result, Ok, Err, ◌∙◌, arith, length-append, refl, rules, subst, sym, true≢false}
 use Rattle.std.specs.FinMap as map
 use Rattle.std.specs.Option.{ok_or, option_map}
@@ -19,7 +19,7 @@ use Rattle.nfs_spec.proofs.ModelLemmas.Answered.{found-stands}
 use Rattle.nfs_spec.specs.Procedures.FirstTests.{found_then, unless}
 use Rattle.nfs_spec.specs.Procedures.Commit as committing
 use Rattle.nfs_spec.specs.Procedures.Fresh as making
-use Rattle.nfs_spec.specs.Procedures.Listing.{entry_bytes, entry_room, fitting, is_end, listed_behind, listing_verifier}
+use Rattle.nfs_spec.specs.Procedures.Listing.{listed_bytes, listing_budget, fitting, is_end, listed_behind, listing_verifier}
 use Rattle.nfs_spec.specs.Procedures.Lookup as lookups
 use Rattle.nfs_spec.specs.Procedures.Read as reads
 use Rattle.nfs_spec.specs.Procedures.ReadDir.{listing_refusal}
@@ -29,7 +29,7 @@ use Rattle.nfs_spec.specs.Procedures.Places.{named_file}
 use Rattle.nfs_spec.specs.Procedures.Step.{numbered_step, step}
 use Rattle.nfs_spec.specs.Procedures.Write as writing
 use Rattle.nfs_types.specs.declared.reply.Written.{Written}
-use Rattle.nfs_spec.specs.Procedures.Told.{Effect, answer_of, handle_of}
+use Rattle.nfs_spec.specs.Procedures.StepForms.{Effect, answer_of, handle_of}
 use Rattle.nfs_types.specs.Verifier.{boot_verifier}
 use Rattle.nfs_types.specs.declared.attributes.WeakCacheData.{WeakCacheData}
 use Rattle.nfs_types.specs.declared.call.Call as types
@@ -39,7 +39,7 @@ use Rattle.nfs_types.specs.declared.program.ProgramReply.TheVariants as program_
 use Rattle.nfs_types.specs.declared.reply.Created.{Created}
 use Rattle.nfs_types.specs.declared.reply.FileSystemInfo.{FileSystemInfo}
 use Rattle.nfs_types.specs.declared.reply.FileSystemSpace.{FileSystemSpace}
-use Rattle.nfs_types.specs.declared.reply.Looked.{Looked}
+use Rattle.nfs_types.specs.declared.reply.LookupResult.{LookupResult}
 use Rattle.nfs_types.specs.declared.reply.PathLimits.{PathLimits}
 use Rattle.nfs_types.specs.declared.reply.ReadBytes.{ReadBytes}
 use Rattle.nfs_types.specs.declared.reply.Reply.{Reply}
@@ -52,7 +52,7 @@ use Rattle.nfs_codec.specs.Items.{attributes, handle, moment, optional_attribute
 use Rattle.nfs_results.specs.Results.{nfs_result_bytes, nfs_too_long}
 use Rattle.nfs_results.specs.Results.{get_attr, set_attr, lookup, access, read_link, read, write, create, remove}
 use Rattle.nfs_results.specs.Results.{rename, link, read_dir, read_dir_plus, fs_stat, fs_info, path_conf, commit}
-use Rattle.nfs_results.specs.Results.{created, info, limits, listed, listed_plus, looked, read_bytes, space, written}
+use Rattle.nfs_results.specs.Results.{created, info, limits, listed, listed_plus, lookup_result, read_bytes, space, written}
 use Rattle.rpc.proofs.Lengths.{word-length, accepted-length, refused-length}
 use Rattle.rpc.specs.Refused.{accepted, refused}
 use Rattle.rpc.specs.declared.refusal.Refusal.TheVariants.{SystemError}
@@ -67,10 +67,10 @@ use Rattle.store_images.specs.Opening.{Opened}
 use Rattle.nfs_spec.specs.Model.Entry.{Entry}
 use Rattle.session.specs.Replying.{IsSpelled}
 use Rattle.session.specs.Serving.{reply_for}
-use Rattle.session.proofs.ShortCodes.{IsShort, all_attributes, alones, any_outcome, attributes_told, befores}
-use Rattle.session.proofs.ShortCodes.{behinds, changes_told, double-length, flag-length, flags, handed_out}
+use Rattle.session.proofs.ShortCodes.{IsShort, all_attributes, default_voids, any_outcome, short_attributes, befores}
+use Rattle.session.proofs.ShortCodes.{behinds, short_changes, double-length, flag-length, flags, handed_out}
 use Rattle.session.proofs.ShortCodes.{nothings, texts, thens, verifiers, words}
-use Rattle.session.proofs.ShortMade.{create_short, made_short, with_room, written_short}
+use Rattle.session.proofs.ShortMade.{create_short, made_short, with_space, written_short}
 use Rattle.session.proofs.ShortListings.{listing_short, listing_plus_short}
 
 pub record IsShortReply (reply : Reply) : Type 0 where
@@ -103,9 +103,9 @@ of_effect : {A : Type 0} (P : A → Type 0) (effect : Result (Effect A) Status) 
 of_effect P (Ok one) is = is
 of_effect P (Err why) is = tt
 
-answers : {A : Type 0} (P : A → Type 0) (outcome told : Result A Status) → outcome ≡ told → IfOk told P
+answers : {A : Type 0} (P : A → Type 0) (outcome given_outcome : Result A Status) → outcome ≡ given_outcome → IfOk given_outcome P
     → IfOk outcome P
-answers P outcome told is short = subst (λ one. IfOk one P) (sym is) short
+answers P outcome given_outcome is short = subst (λ one. IfOk one P) (sym is) short
 
 -- ---- replies
 
@@ -113,11 +113,11 @@ reply_of : (reply : Reply) → (length (nfs_result_bytes reply) ≤ 139000) × (
     → IsShortReply reply
 reply_of reply is = record { short = is.0; counts = is.1 }
 
-alone_short : {A : Type 0} (m : ℕ) (F : Code A) (outcome : Result A Status) → 4 + m ≤ 139000
+default_void_short : {A : Type 0} (m : ℕ) (F : Code A) (outcome : Result A Status) → 4 + m ≤ 139000
     → IfOk outcome (IsShort m F)
-    → (length ((alone F).spell outcome) ≤ 139000) × ((alone F).too_long outcome ≡ false)
-alone_short m F outcome few is =
-    let all = alones m F outcome is in
+    → (length ((default_void F).spell outcome) ≤ 139000) × ((default_void F).too_long outcome ≡ false)
+default_void_short m F outcome few is =
+    let all = default_voids m F outcome is in
     let short = all.short in
     (omega (arith, short, few), all.counts)
 
@@ -142,58 +142,58 @@ pub refused_is_short : (s : Status) (c : types.Call) → IsShortReply (refused_r
 unfolding get_attr set_attr lookup access read_link read write create remove rename link read_dir
     read_dir_plus fs_stat fs_info path_conf commit
 refused_is_short s call.Null = record { short = omega arith; counts = refl }
-refused_is_short s (call.GetAttr _) = reply_of _ (alone_short 84 attributes (Err s) (omega arith) tt)
+refused_is_short s (call.GetAttr _) = reply_of _ (default_void_short 84 attributes (Err s) (omega arith) tt)
 refused_is_short s (call.SetAttr _ _ _) =
-    reply_of _ (behind_short 116 0 weak_cache nothing (Err s) untold (omega arith) (changes_told untold) tt)
+    reply_of _ (behind_short 116 0 weak_cache nothing (Err s) untold (omega arith) (short_changes untold) tt)
 refused_is_short s (call.Lookup _) =
-    reply_of _ (before_short 0 88 looked optional_attributes (Err s) None (omega arith) tt (attributes_told None))
+    reply_of _ (before_short 0 88 lookup_result optional_attributes (Err s) None (omega arith) tt (short_attributes None))
 refused_is_short s (call.Access _ _) =
-    reply_of _ (behind_short 88 0 optional_attributes word (Err s) None (omega arith) (attributes_told None) tt)
+    reply_of _ (behind_short 88 0 optional_attributes word (Err s) None (omega arith) (short_attributes None) tt)
 refused_is_short s (call.ReadLink _) =
-    reply_of _ (behind_short 88 0 optional_attributes text (Err s) None (omega arith) (attributes_told None) tt)
+    reply_of _ (behind_short 88 0 optional_attributes text (Err s) None (omega arith) (short_attributes None) tt)
 refused_is_short s (call.Read _ _ _) =
-    reply_of _ (behind_short 88 0 optional_attributes read_bytes (Err s) None (omega arith) (attributes_told None) tt)
+    reply_of _ (behind_short 88 0 optional_attributes read_bytes (Err s) None (omega arith) (short_attributes None) tt)
 refused_is_short s (call.Write _ _ _ _ _) =
-    reply_of _ (behind_short 116 0 weak_cache written (Err s) untold (omega arith) (changes_told untold) tt)
+    reply_of _ (behind_short 116 0 weak_cache written (Err s) untold (omega arith) (short_changes untold) tt)
 refused_is_short s (call.Create _ _) =
-    reply_of _ (before_short 0 116 created weak_cache (Err s) untold (omega arith) tt (changes_told untold))
+    reply_of _ (before_short 0 116 created weak_cache (Err s) untold (omega arith) tt (short_changes untold))
 refused_is_short s (call.MkDir _ _) =
-    reply_of _ (before_short 0 116 created weak_cache (Err s) untold (omega arith) tt (changes_told untold))
+    reply_of _ (before_short 0 116 created weak_cache (Err s) untold (omega arith) tt (short_changes untold))
 refused_is_short s (call.SymLink _ _ _) =
-    reply_of _ (before_short 0 116 created weak_cache (Err s) untold (omega arith) tt (changes_told untold))
+    reply_of _ (before_short 0 116 created weak_cache (Err s) untold (omega arith) tt (short_changes untold))
 refused_is_short s (call.MkNod _ _) =
-    reply_of _ (before_short 0 116 created weak_cache (Err s) untold (omega arith) tt (changes_told untold))
+    reply_of _ (before_short 0 116 created weak_cache (Err s) untold (omega arith) tt (short_changes untold))
 refused_is_short s (call.Remove _) =
-    reply_of _ (behind_short 116 0 weak_cache nothing (Err s) untold (omega arith) (changes_told untold) tt)
+    reply_of _ (behind_short 116 0 weak_cache nothing (Err s) untold (omega arith) (short_changes untold) tt)
 refused_is_short s (call.RmDir _) =
-    reply_of _ (behind_short 116 0 weak_cache nothing (Err s) untold (omega arith) (changes_told untold) tt)
+    reply_of _ (behind_short 116 0 weak_cache nothing (Err s) untold (omega arith) (short_changes untold) tt)
 refused_is_short s (call.Rename _ _) =
     reply_of _ (behind_short 232 0 (weak_cache then weak_cache) nothing (Err s) (untold, untold) (omega arith)
-    (thens 116 116 weak_cache weak_cache untold untold (changes_told untold) (changes_told untold)) tt)
+    (thens 116 116 weak_cache weak_cache untold untold (short_changes untold) (short_changes untold)) tt)
 refused_is_short s (call.Link _ _) =
     reply_of _ (behind_short 204 0 (optional_attributes then weak_cache) nothing (Err s) (None, untold) (omega arith)
-    (thens 88 116 optional_attributes weak_cache None untold (attributes_told None) (changes_told untold)) tt)
+    (thens 88 116 optional_attributes weak_cache None untold (short_attributes None) (short_changes untold)) tt)
 refused_is_short s (call.ReadDir _ _ _ _) =
-    reply_of _ (behind_short 88 0 optional_attributes listed (Err s) None (omega arith) (attributes_told None) tt)
+    reply_of _ (behind_short 88 0 optional_attributes listed (Err s) None (omega arith) (short_attributes None) tt)
 refused_is_short s (call.ReadDirPlus _ _ _ _ _) =
-    reply_of _ (behind_short 88 0 optional_attributes listed_plus (Err s) None (omega arith) (attributes_told None) tt)
+    reply_of _ (behind_short 88 0 optional_attributes listed_plus (Err s) None (omega arith) (short_attributes None) tt)
 refused_is_short s (call.FsStat _) =
-    reply_of _ (behind_short 88 0 optional_attributes space (Err s) None (omega arith) (attributes_told None) tt)
+    reply_of _ (behind_short 88 0 optional_attributes space (Err s) None (omega arith) (short_attributes None) tt)
 refused_is_short s (call.FsInfo _) =
-    reply_of _ (behind_short 88 0 optional_attributes info (Err s) None (omega arith) (attributes_told None) tt)
+    reply_of _ (behind_short 88 0 optional_attributes info (Err s) None (omega arith) (short_attributes None) tt)
 refused_is_short s (call.PathConf _) =
-    reply_of _ (behind_short 88 0 optional_attributes limits (Err s) None (omega arith) (attributes_told None) tt)
+    reply_of _ (behind_short 88 0 optional_attributes limits (Err s) None (omega arith) (short_attributes None) tt)
 refused_is_short s (call.Commit _ _ _) =
-    reply_of _ (behind_short 116 0 weak_cache verifier (Err s) untold (omega arith) (changes_told untold) tt)
+    reply_of _ (behind_short 116 0 weak_cache verifier (Err s) untold (omega arith) (short_changes untold) tt)
 
 -- ---- what is told of files
 
-looked_short : (file : ℕ × Node) → IsShort 112 looked (lookups.looked file)
-unfolding looked
-looked_short file =
-    let one = lookups.looked file in
+lookup_result_short : (file : ℕ × Node) → IsShort 112 lookup_result (lookups.lookup_result file)
+unfolding lookup_result
+lookup_result_short file =
+    let one = lookups.lookup_result file in
     let all = thens 24 88 handle optional_attributes one.object one.attributes
-    (handed_out file.0 file.1.stamp) (attributes_told one.attributes) in
+    (handed_out file.0 file.1.stamp) (short_attributes one.attributes) in
     record { short = all.short; counts = all.counts }
 
 taken_few : (most : ℕ) (bytes : List ℕ) → length (take most bytes) ≤ most
@@ -265,55 +265,55 @@ module _ (tree : Tree) (ctx : Ctx) (new : Option ℕ) (next : Tree) (sound : Sou
   unfolding get_attr set_attr lookup access read_link read write create remove rename link read_dir read_dir_plus
       fs_stat fs_info path_conf commit
   numbered_is_short (call.GetAttr object) (replies.GetAttr outcome) rules is =
-      reply_of _ (alone_short 84 attributes outcome (omega arith)
+      reply_of _ (default_void_short 84 attributes outcome (omega arith)
       (any_outcome 84 attributes all_attributes outcome))
-  numbered_is_short (call.SetAttr object wanted guard) (replies.SetAttr outcome told) rules is =
-      reply_of _ (behind_short 116 0 weak_cache nothing outcome told (omega arith) (changes_told told)
+  numbered_is_short (call.SetAttr object wanted guard) (replies.SetAttr outcome file_attributes) rules is =
+      reply_of _ (behind_short 116 0 weak_cache nothing outcome file_attributes (omega arith) (short_changes file_attributes)
       (any_outcome 0 nothing nothings outcome))
-  numbered_is_short (call.Lookup name) (replies.Lookup outcome told) rules is =
-      reply_of _ (before_short 112 88 looked optional_attributes outcome told (omega arith)
-      (answers (IsShort 112 looked) outcome _ is.answered
-      (of_found (IsShort 112 looked) tree name.directory.bytes _ (λ number node at.
-      of_unless (IsShort 112 looked) _ _
-      (of_some (IsShort 112 looked) lookups.looked
-      (lookups.found_under tree number node name.name) status.NoEnt looked_short))))
-      (attributes_told told))
-  numbered_is_short (call.Access object bits) (replies.Access outcome told) rules is =
-      reply_of _ (behind_short 88 4 optional_attributes word outcome told (omega arith) (attributes_told told)
+  numbered_is_short (call.Lookup name) (replies.Lookup outcome file_attributes) rules is =
+      reply_of _ (before_short 112 88 lookup_result optional_attributes outcome file_attributes (omega arith)
+      (answers (IsShort 112 lookup_result) outcome _ is.answered
+      (of_found (IsShort 112 lookup_result) tree name.directory.bytes _ (λ number node at.
+      of_unless (IsShort 112 lookup_result) _ _
+      (of_some (IsShort 112 lookup_result) lookups.lookup_result
+      (lookups.found_under tree number node name.name) status.NoEnt lookup_result_short))))
+      (short_attributes file_attributes))
+  numbered_is_short (call.Access object bits) (replies.Access outcome file_attributes) rules is =
+      reply_of _ (behind_short 88 4 optional_attributes word outcome file_attributes (omega arith) (short_attributes file_attributes)
       (any_outcome 4 word words outcome))
-  numbered_is_short (call.ReadLink link) (replies.ReadLink outcome told) rules is =
-      reply_of _ (behind_short 88 (TARGET_BYTES + 7) optional_attributes text outcome told (omega arith)
-      (attributes_told told)
+  numbered_is_short (call.ReadLink link) (replies.ReadLink outcome file_attributes) rules is =
+      reply_of _ (behind_short 88 (TARGET_BYTES + 7) optional_attributes text outcome file_attributes (omega arith)
+      (short_attributes file_attributes)
       (answers (IsShort (TARGET_BYTES + 7) text) outcome _ is.answered
       (of_found (IsShort (TARGET_BYTES + 7) text) tree link.bytes _ (λ number node at.
       target_short node.body (sound.files number node (found-stands tree link.bytes (number, node) at)).itself.body))))
-  numbered_is_short (call.Read file offset count) (replies.Read outcome told) rules is =
-      reply_of _ (behind_short 88 (TRANSFER_BYTES + 15) optional_attributes read_bytes outcome told (omega arith)
-      (attributes_told told)
+  numbered_is_short (call.Read file offset count) (replies.Read outcome file_attributes) rules is =
+      reply_of _ (behind_short 88 (TRANSFER_BYTES + 15) optional_attributes read_bytes outcome file_attributes (omega arith)
+      (short_attributes file_attributes)
       (answers (IsShort (TRANSFER_BYTES + 15) read_bytes) outcome _ is.answered
       (of_found (IsShort (TRANSFER_BYTES + 15) read_bytes) tree file.bytes _ (λ number node at.
       of_unless (IsShort (TRANSFER_BYTES + 15) read_bytes) (reads.read_refusal ctx.credential node)
       (Ok (reads.read_bytes offset (reads.bytes_of node.body) (reads.piece offset count (reads.bytes_of node.body))))
       (read_short offset count (reads.bytes_of node.body))))))
-  numbered_is_short (call.Write file offset count how text_given) (replies.Write outcome told) rules is =
-      reply_of _ (behind_short 116 16 weak_cache written outcome told (omega arith) (changes_told told)
+  numbered_is_short (call.Write file offset count how text_given) (replies.Write outcome file_attributes) rules is =
+      reply_of _ (behind_short 116 16 weak_cache written outcome file_attributes (omega arith) (short_changes file_attributes)
       (answers (IsShort 16 written) outcome _ is.answered
       (of_effect (IsShort 16 written) _
       (of_found (λ (one : Effect Written). IsShort 16 written one.answer) tree file.bytes _ (λ number node at.
       of_unless (λ (one : Effect Written). IsShort 16 written one.answer)
       (writing.write_refusal ctx.credential offset count text_given node) _
-      (with_room (λ (one : Effect Written). IsShort 16 written one.answer) tree _ (written_short ctx count how)))))))
-  numbered_is_short (call.Create name how) (replies.Create outcome told) rules is =
-      reply_of _ (before_short 116 116 created weak_cache outcome told (omega arith)
+      (with_space (λ (one : Effect Written). IsShort 16 written one.answer) tree _ (written_short ctx count how)))))))
+  numbered_is_short (call.Create name how) (replies.Create outcome file_attributes) rules is =
+      reply_of _ (before_short 116 116 created weak_cache outcome file_attributes (omega arith)
       (answers (IsShort 116 created) outcome _ is.answered
       (of_effect (IsShort 116 created) _
       (of_found (λ (one : Effect Created). IsShort 116 created one.answer) tree name.directory.bytes _
       (λ number node at.
       of_unless (λ (one : Effect Created). IsShort 116 created one.answer) _ _
       (create_short tree ctx how new number node name.name (named_file tree node name.name))))))
-      (changes_told told))
-  numbered_is_short (call.MkDir name wanted) (replies.MkDir outcome told) rules is =
-      reply_of _ (before_short 116 116 created weak_cache outcome told (omega arith)
+      (short_changes file_attributes))
+  numbered_is_short (call.MkDir name wanted) (replies.MkDir outcome file_attributes) rules is =
+      reply_of _ (before_short 116 116 created weak_cache outcome file_attributes (omega arith)
       (answers (IsShort 116 created) outcome _ is.answered
       (of_effect (IsShort 116 created) _
       (of_found (λ (one : Effect Created). IsShort 116 created one.answer) tree name.directory.bytes _
@@ -321,9 +321,9 @@ module _ (tree : Tree) (ctx : Ctx) (new : Option ℕ) (next : Tree) (sound : Sou
       of_unless (λ (one : Effect Created). IsShort 116 created one.answer) _ _
       (made_short tree ctx new number node name.name (making.without_size wanted)
       (making.fresh ctx NEW_DIRECTORY_MODE None (Directory map.empty 0 number)))))))
-      (changes_told told))
-  numbered_is_short (call.SymLink name wanted target) (replies.SymLink outcome told) rules is =
-      reply_of _ (before_short 116 116 created weak_cache outcome told (omega arith)
+      (short_changes file_attributes))
+  numbered_is_short (call.SymLink name wanted target) (replies.SymLink outcome file_attributes) rules is =
+      reply_of _ (before_short 116 116 created weak_cache outcome file_attributes (omega arith)
       (answers (IsShort 116 created) outcome _ is.answered
       (of_effect (IsShort 116 created) _
       (of_found (λ (one : Effect Created). IsShort 116 created one.answer) tree name.directory.bytes _
@@ -331,61 +331,61 @@ module _ (tree : Tree) (ctx : Ctx) (new : Option ℕ) (next : Tree) (sound : Sou
       of_unless (λ (one : Effect Created). IsShort 116 created one.answer) _ _
       (made_short tree ctx new number node name.name (making.without_size wanted)
       (making.fresh ctx NEW_LINK_MODE None (Link target)))))))
-      (changes_told told))
-  numbered_is_short (call.Remove name) (replies.Remove outcome told) rules is =
-      reply_of _ (behind_short 116 0 weak_cache nothing outcome told (omega arith) (changes_told told)
+      (short_changes file_attributes))
+  numbered_is_short (call.Remove name) (replies.Remove outcome file_attributes) rules is =
+      reply_of _ (behind_short 116 0 weak_cache nothing outcome file_attributes (omega arith) (short_changes file_attributes)
       (any_outcome 0 nothing nothings outcome))
-  numbered_is_short (call.RmDir name) (replies.RmDir outcome told) rules is =
-      reply_of _ (behind_short 116 0 weak_cache nothing outcome told (omega arith) (changes_told told)
+  numbered_is_short (call.RmDir name) (replies.RmDir outcome file_attributes) rules is =
+      reply_of _ (behind_short 116 0 weak_cache nothing outcome file_attributes (omega arith) (short_changes file_attributes)
       (any_outcome 0 nothing nothings outcome))
-  numbered_is_short (call.Rename source target) (replies.Rename outcome told tells) rules is =
-      reply_of _ (behind_short 232 0 (weak_cache then weak_cache) nothing outcome (told, tells) (omega arith)
-      (thens 116 116 weak_cache weak_cache told tells (changes_told told) (changes_told tells))
+  numbered_is_short (call.Rename source target) (replies.Rename outcome file_attributes tells) rules is =
+      reply_of _ (behind_short 232 0 (weak_cache then weak_cache) nothing outcome (file_attributes, tells) (omega arith)
+      (thens 116 116 weak_cache weak_cache file_attributes tells (short_changes file_attributes) (short_changes tells))
       (any_outcome 0 nothing nothings outcome))
-  numbered_is_short (call.Link file name) (replies.Link outcome told tells) rules is =
-      reply_of _ (behind_short 204 0 (optional_attributes then weak_cache) nothing outcome (told, tells) (omega arith)
-      (thens 88 116 optional_attributes weak_cache told tells (attributes_told told) (changes_told tells))
+  numbered_is_short (call.Link file name) (replies.Link outcome file_attributes tells) rules is =
+      reply_of _ (behind_short 204 0 (optional_attributes then weak_cache) nothing outcome (file_attributes, tells) (omega arith)
+      (thens 88 116 optional_attributes weak_cache file_attributes tells (short_attributes file_attributes) (short_changes tells))
       (any_outcome 0 nothing nothings outcome))
-  numbered_is_short (call.MkNod name special) (replies.MkNod outcome told) rules is =
-      reply_of _ (before_short 0 116 created weak_cache outcome told (omega arith)
+  numbered_is_short (call.MkNod name special) (replies.MkNod outcome file_attributes) rules is =
+      reply_of _ (before_short 0 116 created weak_cache outcome file_attributes (omega arith)
       (answers (IsShort 0 created) outcome _ is.answered
       (of_effect (IsShort 0 created) _
       (of_found (λ (one : Effect Created). IsShort 0 created one.answer) tree name.directory.bytes _ (λ number node at. tt))))
-      (changes_told told))
-  numbered_is_short (call.ReadDir directory cookie sent count) (replies.ReadDir outcome told) rules is =
-      reply_of _ (behind_short 88 (LISTING_BYTES + 16) optional_attributes listed outcome told (omega arith)
-      (attributes_told told)
+      (short_changes file_attributes))
+  numbered_is_short (call.ReadDir directory cookie sent count) (replies.ReadDir outcome file_attributes) rules is =
+      reply_of _ (behind_short 88 (LISTING_BYTES + 16) optional_attributes listed outcome file_attributes (omega arith)
+      (short_attributes file_attributes)
       (answers (IsShort (LISTING_BYTES + 16) listed) outcome _ is.answered
       (of_found (IsShort (LISTING_BYTES + 16) listed) tree directory.bytes _ (λ number node at.
       let left = listed_behind cookie number node.body in
-      let given = fitting entry_bytes (entry_room count) left in
+      let given = fitting listed_bytes (listing_budget count) left in
       of_unless (IsShort (LISTING_BYTES + 16) listed)
       (listing_refusal ctx.credential cookie sent count node left given)
       (Ok (record { verifier = listing_verifier; entries = given; eof = is_end left given }))
       (listing_short count left (is_end left given))))))
-  numbered_is_short (call.ReadDirPlus directory cookie sent names_count count) (replies.ReadDirPlus outcome told)
+  numbered_is_short (call.ReadDirPlus directory cookie sent names_count count) (replies.ReadDirPlus outcome file_attributes)
       rules is =
-      reply_of _ (behind_short 88 (LISTING_BYTES + 16) optional_attributes listed_plus outcome told (omega arith)
-      (attributes_told told)
+      reply_of _ (behind_short 88 (LISTING_BYTES + 16) optional_attributes listed_plus outcome file_attributes (omega arith)
+      (short_attributes file_attributes)
       (answers (IsShort (LISTING_BYTES + 16) listed_plus) outcome _ is.answered
       (of_found (IsShort (LISTING_BYTES + 16) listed_plus) tree directory.bytes _ (λ number node at.
       let left = listed_behind cookie number node.body in
-      let given = fitting_both names_count (entry_room count) left in
+      let given = fitting_both names_count (listing_budget count) left in
       of_unless (IsShort (LISTING_BYTES + 16) listed_plus)
       (listing_refusal ctx.credential cookie sent count node left given)
       (Ok (record { verifier = listing_verifier; entries = list_map (plus tree) given; eof = is_end left given }))
       (listing_plus_short tree names_count count left (is_end left given))))))
-  numbered_is_short (call.FsStat object) (replies.FsStat outcome told) rules is =
-      reply_of _ (behind_short 88 52 optional_attributes space outcome told (omega arith) (attributes_told told)
+  numbered_is_short (call.FsStat object) (replies.FsStat outcome file_attributes) rules is =
+      reply_of _ (behind_short 88 52 optional_attributes space outcome file_attributes (omega arith) (short_attributes file_attributes)
       (any_outcome 52 space spaces outcome))
-  numbered_is_short (call.FsInfo object) (replies.FsInfo outcome told) rules is =
-      reply_of _ (behind_short 88 48 optional_attributes info outcome told (omega arith) (attributes_told told)
+  numbered_is_short (call.FsInfo object) (replies.FsInfo outcome file_attributes) rules is =
+      reply_of _ (behind_short 88 48 optional_attributes info outcome file_attributes (omega arith) (short_attributes file_attributes)
       (any_outcome 48 info infos outcome))
-  numbered_is_short (call.PathConf object) (replies.PathConf outcome told) rules is =
-      reply_of _ (behind_short 88 24 optional_attributes limits outcome told (omega arith) (attributes_told told)
+  numbered_is_short (call.PathConf object) (replies.PathConf outcome file_attributes) rules is =
+      reply_of _ (behind_short 88 24 optional_attributes limits outcome file_attributes (omega arith) (short_attributes file_attributes)
       (any_outcome 24 limits limits_short outcome))
-  numbered_is_short (call.Commit file offset count) (replies.Commit outcome told) rules is =
-      reply_of _ (behind_short 116 8 weak_cache verifier outcome told (omega arith) (changes_told told)
+  numbered_is_short (call.Commit file offset count) (replies.Commit outcome file_attributes) rules is =
+      reply_of _ (behind_short 116 8 weak_cache verifier outcome file_attributes (omega arith) (short_changes file_attributes)
       (answers (IsShort 8 verifier) outcome _ is.answered
       (of_effect (IsShort 8 verifier) _
       (of_found (λ (one : Effect Verifier). IsShort 8 verifier one.answer) tree file.bytes _ (λ number node at.
@@ -435,7 +435,7 @@ not_long_refused xid (inr many) = let few = refused-length xid SystemError in om
 
 -- so it isn't too long, whatever a procedure came to
 abbrev IsFine : ℕ → Verdict → Type 0
-IsFine xid told = IsTooLong xid (reply_for told) → ⊥
+IsFine xid given_verdict = IsTooLong xid (reply_for given_verdict) → ⊥
 
 fine_refusal : (xid : ℕ) (c : types.Call) (why : Cause) → IsFine xid (refusal c why)
 fine_refusal xid c cause.Io = not_long xid (refused_reply status.Io c) (refused_is_short status.Io c)
@@ -443,22 +443,22 @@ fine_refusal xid c cause.Spent = not_long xid (refused_reply status.ServerFault 
     (refused_is_short status.ServerFault c)
 fine_refusal xid c cause.NoMemory = not_long_refused xid
 
-pub never_too_long : (xid : ℕ) (o : Outset) (entry : Option Entry) (last : Tree) (told : Verdict) (now : Opened)
-    → Sound o.last → ComesTo o now entry last → Tells o entry told now → IsTooLong xid (reply_for told) → ⊥
-never_too_long xid o (Some entry) last told now sound comes (inl reply) =
-    subst (IsFine xid) (sym reply.told_is)
+pub never_too_long : (xid : ℕ) (o : Outset) (entry : Option Entry) (last : Tree) (given_verdict : Verdict) (now : Opened)
+    → Sound o.last → ComesTo o now entry last → Tells o entry given_verdict now → IsTooLong xid (reply_for given_verdict) → ⊥
+never_too_long xid o (Some entry) last given_verdict now sound comes (inl reply) =
+    subst (IsFine xid) (sym reply.verdict_is_reply)
     (not_long xid entry.reply (step_is_short o.last entry.ctx entry.call entry.reply last sound
     (subst (λ (c : types.Call). begins_transaction c ≡ true) (sym comes.call) comes.begun_for.begins) comes.step))
-never_too_long xid o (Some entry) last told now sound comes (inr unsettled) =
-    subst (IsFine xid) (sym unsettled.told_is) (fine_refusal xid o.asked.call cause.Io)
-never_too_long xid o None last told now sound comes (inl unserved) =
-    subst (IsFine xid) (sym unserved.told_is)
+never_too_long xid o (Some entry) last given_verdict now sound comes (inr unsettled) =
+    subst (IsFine xid) (sym unsettled.verdict_is_reply) (fine_refusal xid o.asked.call cause.Io)
+never_too_long xid o None last given_verdict now sound comes (inl unserved) =
+    subst (IsFine xid) (sym unserved.verdict_is_reply)
     (not_long xid replies.Null (refused_is_short status.Io call.Null))
-never_too_long xid o None last told now sound comes (inr refused) =
-    subst (IsFine xid) (sym refused.told_is) (fine_refusal xid o.asked.call refused.why)
+never_too_long xid o None last given_verdict now sound comes (inr refused) =
+    subst (IsFine xid) (sym refused.verdict_is_reply) (fine_refusal xid o.asked.call refused.why)
 
 -- so the reply's own spelling is what was answered
-pub spelled_whole : (xid : ℕ) (told : Verdict) (bytes : List ℕ) → (IsTooLong xid (reply_for told) → ⊥)
-    → IsSpelled xid (reply_for told) bytes → bytes ≡ reply_bytes xid (reply_for told)
-spelled_whole xid told bytes fine (inl spelled) = spelled.0
-spelled_whole xid told bytes fine (inr long) = absurd (fine long.0)
+pub spelled_whole : (xid : ℕ) (given_verdict : Verdict) (bytes : List ℕ) → (IsTooLong xid (reply_for given_verdict) → ⊥)
+    → IsSpelled xid (reply_for given_verdict) bytes → bytes ≡ reply_bytes xid (reply_for given_verdict)
+spelled_whole xid given_verdict bytes fine (inl spelled) = spelled.0
+spelled_whole xid given_verdict bytes fine (inr long) = absurd (fine long.0)

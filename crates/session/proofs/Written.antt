@@ -7,15 +7,15 @@ use Rattle.std.proofs.lemmas.List.{append-nil, append_assoc, drop_all, length-dr
 use Rattle.std.proofs.lemmas.List.Concat.{flat_map-cons, flat_map-append}
 use Rattle.std.proofs.lemmas.List.Elements.{All-nil, All-push}
 use Rattle.std.proofs.Math.Seq.{take-add}
-use Rattle.session.specs.Writing.{AllWriteOn, Calls, Told, Tells, WritesOn, all_written, AreSent, AreCutOff, IsWrite, written_by, taken_of}
+use Rattle.session.specs.Writing.{AllWriteOn, Calls, OutputState, Tells, WritesOn, all_written, AreSent, AreCutOff, IsWrite, written_by, taken_of}
 use Rattle.session.specs.Writing.{IsFlush, FailsAt, at_fault, too_many, HasRefused, LetsGoOn}
-use Rattle.session.proofs.Courses.{none_more, then_more, kept, then_kept}
+use Rattle.session.proofs.Courses.{none_more, then_more, is_preserved, then_preserved}
 use Rattle.std.specs.declared.io.Error.{Error}
 use Rattle.session.specs.declared.output.OutputCall.{OutputCall}
 use Rattle.session.specs.declared.output.OutputCall.TheVariants.{Write, Flush, Other}
 
 -- so many of these bytes are written so far, by so many writes, each of which let it go on
-pub record HasWritten (bytes : List ℕ) (done count : ℕ) (first written : Told) : Type 0 where
+pub record HasWritten (bytes : List ℕ) (done count : ℕ) (first written : OutputState) : Type 0 where
   pub within : done ≤ length bytes
   pub appended : Appends first.bytes written.bytes (take done bytes)
   pub calls : Calls
@@ -24,7 +24,7 @@ pub record HasWritten (bytes : List ℕ) (done count : ℕ) (first written : Tol
   pub is : all_written calls ≡ take done bytes
   pub counted : length calls ≡ count
 
-begins : (bytes : List ℕ) (first : Told) → HasWritten bytes 0 0 first first
+begins : (bytes : List ℕ) (first : OutputState) → HasWritten bytes 0 0 first first
 begins bytes first = record {
   within = omega arith;
   appended = none_more first.bytes;
@@ -49,9 +49,9 @@ whole bytes done is = (
 took_none : (a b : Option (List ℕ)) (bytes : List ℕ) (answer : Result ℕ Error) → HasRefused answer
     → WriteAppends a b answer bytes → Appends a b []
 took_none a b bytes (Ok n) none appended = subst (λ (k : ℕ). Appends a b (take k bytes)) none appended
-took_none a b bytes (Err e) refused keeps = kept a b keeps
+took_none a b bytes (Err e) refused preserves = is_preserved a b preserves
 
-module _ (bytes : List ℕ) (done count : ℕ) (first written : Told) (has : HasWritten bytes done count first written)
+module _ (bytes : List ℕ) (done count : ℕ) (first written : OutputState) (has : HasWritten bytes done count first written)
   where
     -- the calls were as many as there may be
     pub many : count ≡ 2 ^ 64 - 1 → (part : List ℕ) × (lost : List ℕ) × (bytes ≡ part ++ lost)
@@ -69,9 +69,9 @@ module _ (bytes : List ℕ) (done count : ℕ) (first written : Told) (has : Has
     )
 
     -- one call more
-    module _ (now : Told) (call : OutputCall) (noted : now.calls ≡ written.calls ++ (call, tt) ∷ []) where
+    module _ (now : OutputState) (call : OutputCall) (traced : now.calls ≡ written.calls ++ (call, tt) ∷ []) where
       all : now.calls ≡ first.calls ++ (has.calls ++ (call, tt) ∷ [])
-      all = noted ∙ ap (λ (calls : Calls). calls ++ (call, tt) ∷ []) has.more
+      all = traced ∙ ap (λ (calls : Calls). calls ++ (call, tt) ∷ []) has.more
           ∙ append_assoc first.calls has.calls ((call, tt) ∷ [])
 
       pub one_more : (taken : ℕ) → WritesOn call → written_by call ≡ take taken (drop done bytes)
@@ -126,9 +126,9 @@ module _ (bytes : List ℕ) (done count : ℕ) (first written : Told) (has : Has
       -- it was a flush, behind all that was to be written
       pub sends : done ≡ length bytes → IsFlush call (Ok tt) → Keeps written.bytes now.bytes
           → Tells first bytes (AreSent bytes) now
-      sends is flushed keeps = record {
+      sends is flushed preserves = record {
         appended = subst (Appends first.bytes now.bytes) (whole bytes done is).0
-            (then_kept first.bytes written.bytes now.bytes (take done bytes) has.appended keeps);
+            (then_preserved first.bytes written.bytes now.bytes (take done bytes) has.appended preserves);
         calls = has.calls ++ (call, tt) ∷ [];
         more = all;
         done = record {
@@ -150,12 +150,12 @@ taken_by (Err e) = 0
 
 pub goes_on : (call : OutputCall) (bytes : List ℕ) (answer : Result ℕ Error) → IsWrite call bytes answer → LetsGoOn answer
     → WritesOn call
-goes_on (Write buffer from told) bytes answer is goes = subst LetsGoOn (sym is.1) goes
-goes_on (Flush told) bytes answer is goes = absurd is
-goes_on (Other told) bytes answer is goes = absurd is
+goes_on (Write buffer from call_result) bytes answer is goes = subst LetsGoOn (sym is.1) goes
+goes_on (Flush call_result) bytes answer is goes = absurd is
+goes_on (Other call_result) bytes answer is goes = absurd is
 
 pub written_is : (call : OutputCall) (bytes : List ℕ) (answer : Result ℕ Error) → IsWrite call bytes answer
     → written_by call ≡ taken_of answer bytes
-written_is (Write buffer from told) bytes answer is = cc (is.0, is.1)
-written_is (Flush told) bytes answer is = absurd is
-written_is (Other told) bytes answer is = absurd is
+written_is (Write buffer from call_result) bytes answer is = cc (is.0, is.1)
+written_is (Flush call_result) bytes answer is = absurd is
+written_is (Other call_result) bytes answer is = absurd is

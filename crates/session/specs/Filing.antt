@@ -20,19 +20,19 @@ use Rattle.session_wire.specs.Served as stream
 use Rattle.circ.specs.Log.Log.{settled_place}
 use Rattle.txn_law.specs.Core.{CoreState}
 use Rattle.store_promise.specs.GoodImage.{IsGoodImage}
-use Rattle.store_promise.specs.OpenSince.{KeepsFiles, LeavesBeginning}
+use Rattle.store_promise.specs.OpenSince.{PreservesFiles, LeavesBeginning}
 use Rattle.store_promise.specs.Openings.{IsLater, LeavesImages}
 use Rattle.store_promise.specs.declared.answers.Verdict.{Verdict}
 use Rattle.store.specs.Calling.{GoesTo, HasAnswered, IsOpenWith, IsReplyOf, Outset, added_in, asked_of}
 use Rattle.store_images.specs.Opening.{IsSettled, Opened}
-use Rattle.session.specs.declared.serving.SessionFault.{SessionFault}
-use Rattle.session.specs.declared.serving.SessionFault.TheVariants.{Record, Input, Output, NoMemory, Truncated}
-use Rattle.session.specs.declared.serving.SessionFault.TheVariants.{Device}
+use Rattle.session.specs.declared.stream.SessionFault.{SessionFault}
+use Rattle.session.specs.declared.stream.SessionFault.TheVariants.{Record, Input, Output, NoMemory, Truncated}
+use Rattle.session.specs.declared.stream.SessionFault.TheVariants.{Device}
 use Rattle.session.specs.Replying.{IsSystemError}
 use Rattle.session.specs.Serving.{reply_for}
 use Rattle.session.specs.Standing.{serving_of, standing_of}
 use Rattle.session.specs.Streaming.{IsStream}
-use Rattle.session.specs.Writing.{Told}
+use Rattle.session.specs.Writing.{OutputState}
 
 -- the files of an open store: they led from the first tree by these entries to the last
 pub record Files : Type 0 where
@@ -60,8 +60,8 @@ outset_of moment store files credential call = record {
 
 -- where a call that waits for its place was answered its reply, the place is among those that are settled by
 -- this one
-abbrev pub IsSettledBy : ℕ → (o : Outset) (told : Verdict) (now : Opened) → HasAnswered o told now → Type 0
-IsSettledBy settled o told now has = (entry : Entry) → has.entry ≡ Some entry → IsReplyOf o entry told now
+abbrev pub IsSettledBy : ℕ → (o : Outset) (given_verdict : Verdict) (now : Opened) → HasAnswered o given_verdict now → Type 0
+IsSettledBy settled o given_verdict now has = (entry : Entry) → has.entry ≡ Some entry → IsReplyOf o entry given_verdict now
     → is_answered_stable o.asked.call ≡ true → length o.entries + 1 ≤ settled
 
 -- What a message makes of the files, by what it is taken for. The procedure of a call of NFS was committed as
@@ -165,8 +165,8 @@ pub record HasFiled (moment : Moment) (old : Opened) (files : Files) (messages r
   pub opened : IsOpenFor new later
   pub past : IsLater old.device new.device
   pub left : LeavesImages old.device new.device
-  pub during : KeepsFiles old.device new.device old.boot files.first later.entries (settled_place old.core.log)
-  pub behind : KeepsFiles served.device new.device old.boot files.first later.entries
+  pub during : PreservesFiles old.device new.device old.boot files.first later.entries (settled_place old.core.log)
+  pub behind : PreservesFiles served.device new.device old.boot files.first later.entries
       (settled_place served.core.log)
   pub stops : (image : Image) → IsCrashImage new.device new.device.clock image
       → LeavesBeginning new.device.size new.boot later.first later.entries (settled_place new.core.log) image
@@ -188,8 +188,8 @@ IsSettledBehind (Err Truncated) core = IsSettled core ⊎ (core.log.broken ≡ t
 -- What came of serving a stream of messages at a moment, from a store and a client to what they became: what
 -- was answered and written, how it ended, and what the settling behind the last message led to. And where the
 -- device keeps its model, the moment is sound and the store was open for some files, what it made of them.
-pub record IsServed (keeps_model : Type 0) (moment : Moment) (old : Opened) (unread : Option (List ℕ)) (first : Told)
-    (result : Result ℕ SessionFault) (rest : Option (List ℕ)) (written : Told) (new : Opened) : Type 0 where
+pub record IsServed (keeps_model : Type 0) (moment : Moment) (old : Opened) (unread : Option (List ℕ)) (first : OutputState)
+    (result : Result ℕ SessionFault) (rest : Option (List ℕ)) (written : OutputState) (new : Opened) : Type 0 where
   pub served : Opened
   pub stream : IsStream keeps_model moment old unread first result rest written served
   pub goes : GoesTo served new

@@ -5,10 +5,10 @@ use Rattle.std.specs.IoError.{error_kind}
 use Rattle.std.specs.declared.io.Error.{Error}
 use Rattle.std.specs.declared.io.ErrorKind.TheVariants as kinds
 use Rattle.base.specs.declared.TheConstants.{MOST_READS}
-use Rattle.session.specs.declared.noting.Input as noting
-use Rattle.session.specs.declared.serving.SessionFault.{SessionFault}
-use Rattle.session.specs.declared.serving.SessionFault.TheVariants.{Record, Input, Output, NoMemory, Truncated}
-use Rattle.session.specs.declared.serving.SessionFault.TheVariants.{Device}
+use Rattle.session.specs.declared.input.Input as tracing
+use Rattle.session.specs.declared.stream.SessionFault.{SessionFault}
+use Rattle.session.specs.declared.stream.SessionFault.TheVariants.{Record, Input, Output, NoMemory, Truncated}
+use Rattle.session.specs.declared.stream.SessionFault.TheVariants.{Device}
 
 -- what a read answered: how many bytes it brought, or why it failed
 abbrev pub ReadAnswer : Type 0
@@ -67,5 +67,5 @@ pub record ReadsTo (result : Result ℕ SessionFault) (old new : Answers) : Type
   pub are : AreReadsOf result answers
 
 -- the bytes of an input that aren't read yet, by those of its reader
-abbrev pub unread_of : {R : Type 0} → (R → Option (List ℕ)) → noting.Input R → Option (List ℕ)
+abbrev pub unread_of : {R : Type 0} → (R → Option (List ℕ)) → tracing.Input R → Option (List ℕ)
 unread_of remaining given = remaining given.reader

@@ -10,7 +10,7 @@ use Rattle.store_promise.specs.declared.answers.Verdict.{Verdict}
 use Rattle.store_promise.specs.declared.answers.Verdict.TheVariants as verdicts
 use Rattle.store_images.specs.Opening.{IsSettled, Opened}
 use Rattle.store_images.specs.Settling.{IsIdle}
-use Rattle.session.specs.declared.serving.SessionFault.{SessionFault}
+use Rattle.session.specs.declared.stream.SessionFault.{SessionFault}
 
 -- a client's stream: the bytes of the input that aren't read yet, and those of the output, each where they
 -- are known

@@ -7,11 +7,11 @@ use Rattle.rpc.specs.Records.{fragment, CutsOff, HasBegun, IsRecord, IsTooLong}
 use Rattle.session_wire.specs.declared.message.Judged.TheVariants.{Closed}
 use Rattle.session_wire.specs.Judging.{judged}
 use Rattle.store_images.specs.Opening.{Opened}
-use Rattle.session.specs.declared.serving.SessionFault.{SessionFault}
-use Rattle.session.specs.declared.serving.SessionFault.TheVariants.{Record, Input, Output, NoMemory, Truncated}
-use Rattle.session.specs.declared.serving.SessionFault.TheVariants.{Device}
+use Rattle.session.specs.declared.stream.SessionFault.{SessionFault}
+use Rattle.session.specs.declared.stream.SessionFault.TheVariants.{Record, Input, Output, NoMemory, Truncated}
+use Rattle.session.specs.declared.stream.SessionFault.TheVariants.{Device}
 use Rattle.session.specs.Replying.{IsMessageAnswered}
-use Rattle.session.specs.Writing.{AreAllSent, IsUnwritten, Tells, Told, Writes}
+use Rattle.session.specs.Writing.{AreAllSent, IsUnwritten, Tells, OutputState, Writes}
 
 -- one reply a message, in their order
 abbrev pub Answered : Type 0 → Moment → Opened → List (List ℕ) → List (List ℕ) → Opened → Type 0
@@ -27,7 +27,7 @@ abbrev pub text_of : List (List ℕ) → List ℕ
 text_of replies = flat_map (fragment true) replies
 
 -- these replies were written, each as one last fragment and flushed before the next
-abbrev pub HasReplied : Told → List (List ℕ) → Told → Type 0
+abbrev pub HasReplied : OutputState → List (List ℕ) → OutputState → Type 0
 HasReplied first replies written = Tells first (text_of replies) (AreAllSent (map (fragment true) replies)) written
 
 -- how many there are, up to the greatest number that can be told
@@ -36,13 +36,13 @@ count_of replies = min (length replies) (2 ^ 64 - 1)
 
 -- The bytes that were read are whole messages and what is left; each message was answered, and the replies were
 -- written. `count` is how many they are.
-pub record IsCourse (keeps_model : Type 0) (moment : Moment) (old : Opened) (first : Told)
-    (read left : List ℕ) (count : ℕ) (new : Opened) (written : Told) : Type 0 where
+pub record IsCourse (keeps_model : Type 0) (moment : Moment) (old : Opened) (first : OutputState)
+    (read left : List ℕ) (count : ℕ) (new : Opened) (written : OutputState) : Type 0 where
   pub messages : List (List ℕ)
   pub replies : List (List ℕ)
   pub cut : CutsOff read messages left
   pub answered : Answered keeps_model moment old messages replies new
-  pub told : HasReplied first replies written
+  pub replies_sent : HasReplied first replies written
   pub counted : count ≡ count_of replies
 
 -- no whole record is left, and no mark that announces too much
@@ -59,18 +59,18 @@ pub record BeginsClosed (left : List ℕ) : Type 0 where
   pub closed : judged message ≡ Closed
 
 -- nothing was done, and nothing was written
-abbrev pub IsUntouched : Opened → Told → Opened → Told → Type 0
+abbrev pub IsUntouched : Opened → OutputState → Opened → OutputState → Type 0
 IsUntouched old first new written = (new ≡ old) × (written ≡ first)
 
 -- ---- one record
 
 -- One of these replies was written, as one last fragment, or a beginning of it; or memory was refused for its
 -- bytes, and nothing was written.
-abbrev pub Delivers : (List ℕ → Type 0) → Told → Result (Unit {0}) SessionFault → Told → Type 0
+abbrev pub Delivers : (List ℕ → Type 0) → OutputState → Result (Unit {0}) SessionFault → OutputState → Type 0
 Delivers IsReply first result written = (reply : List ℕ) × IsReply reply × Writes first (fragment true reply) result written
 
 -- what comes of one record: it is answered, or the connection closes on it
-abbrev pub Serves : Type 0 → Moment → Opened → Told → List ℕ → Result (Unit {0}) SessionFault → Opened → Told → Type 0
+abbrev pub Serves : Type 0 → Moment → Opened → OutputState → List ℕ → Result (Unit {0}) SessionFault → Opened → OutputState → Type 0
 Serves keeps_model moment old first message result new written =
     Delivers (λ (reply : List ℕ). IsMessageAnswered keeps_model moment old (judged message) reply new) first
     result written
@@ -80,7 +80,7 @@ Serves keeps_model moment old first message result new written =
 
 -- what is left begins with a message that was answered, and its reply wasn't written whole
 pub record IsCutShort (keeps_model : Type 0) (moment : Moment) (fault : SessionFault) (left : List ℕ) (old : Opened)
-    (first : Told) (new : Opened) (written : Told) : Type 0 where
+    (first : OutputState) (new : Opened) (written : OutputState) : Type 0 where
   pub text : List ℕ
   pub message : List ℕ
   pub more : List ℕ
@@ -91,7 +91,7 @@ pub record IsCutShort (keeps_model : Type 0) (moment : Moment) (fault : SessionF
   pub unwritten : IsUnwritten fault first (fragment true reply) written
 
 -- a stream that comes to a fault while its records are answered
-abbrev pub StopsAt : Type 0 → Moment → SessionFault → List ℕ → Opened → Told → Opened → Told → Type 0
+abbrev pub StopsAt : Type 0 → Moment → SessionFault → List ℕ → Opened → OutputState → Opened → OutputState → Type 0
 StopsAt keeps_model moment Record left old first new written = IsUntouched old first new written
     × (IsTooLong left ⊎ BeginsClosed left)
 StopsAt keeps_model moment NoMemory left old first new written = IsUntouched old first new written
@@ -103,29 +103,29 @@ StopsAt keeps_model moment Truncated left old first new written = ⊥
 StopsAt keeps_model moment Device left old first new written = ⊥
 
 -- what comes of the records that are there
-abbrev pub Going : Type 0 → Moment → Opened → Told → List ℕ → Result ℕ SessionFault → List ℕ → Opened → Told → Type 0
+abbrev pub Going : Type 0 → Moment → Opened → OutputState → List ℕ → Result ℕ SessionFault → List ℕ → Opened → OutputState → Type 0
 Going keeps_model moment old first read (Ok count) left new written =
     IsCourse keeps_model moment old first read left count new written × IsUnfinished left
 Going keeps_model moment old first read (Err fault) left new written = (rest : List ℕ) × (count : ℕ)
-    × (middle : Opened) × (told : Told)
-    × IsCourse keeps_model moment old first read rest count middle told
-    × StopsAt keeps_model moment fault rest middle told new written
+    × (middle : Opened) × (output_state : OutputState)
+    × IsCourse keeps_model moment old first read rest count middle output_state
+    × StopsAt keeps_model moment fault rest middle output_state new written
 
 -- ---- the stream
 
 -- the replies were written, but for an end of the last one
-pub record IsCutOff (fault : SessionFault) (first : Told) (replies : List (List ℕ)) (written : Told) : Type 0 where
+pub record IsCutOff (fault : SessionFault) (first : OutputState) (replies : List (List ℕ)) (written : OutputState) : Type 0 where
   pub whole : List (List ℕ)
   pub last : List ℕ
   pub is : replies ≡ whole ++ last ∷ []
-  pub told : Told
-  pub sent : HasReplied first whole told
-  pub unwritten : IsUnwritten fault told (fragment true last) written
+  pub output_state : OutputState
+  pub sent : HasReplied first whole output_state
+  pub unwritten : IsUnwritten fault output_state (fragment true last) written
 
 -- Where a stream ends, by what is left of the bytes that were read, and what is written of the replies. With
 -- a count none is left, and it is theirs. NoMemory may come where a record is cut out, or behind a message
 -- whose reply finds no memory.
-abbrev pub EndsAt : Result ℕ SessionFault → List ℕ → Option (List ℕ) → Told → Told → List (List ℕ) → Type 0
+abbrev pub EndsAt : Result ℕ SessionFault → List ℕ → Option (List ℕ) → OutputState → OutputState → List (List ℕ) → Type 0
 EndsAt (Ok count) left unread first written replies = (left ≡ []) × IsAtEnd unread
     × (count ≡ count_of replies) × HasReplied first replies written
 EndsAt (Err Record) left unread first written replies = (IsTooLong left ⊎ BeginsClosed left)
@@ -142,8 +142,8 @@ EndsAt (Err NoMemory) left unread first written replies = HasReplied first repli
 
 -- What comes of a stream, of the bytes that the reader gave: they are whole messages and what is left; each
 -- message was answered, one after another, which left this store; and so it ended.
-pub record IsStream (keeps_model : Type 0) (moment : Moment) (old : Opened) (unread : Option (List ℕ)) (first : Told)
-    (result : Result ℕ SessionFault) (rest : Option (List ℕ)) (written : Told) (new : Opened) : Type 0 where
+pub record IsStream (keeps_model : Type 0) (moment : Moment) (old : Opened) (unread : Option (List ℕ)) (first : OutputState)
+    (result : Result ℕ SessionFault) (rest : Option (List ℕ)) (written : OutputState) (new : Opened) : Type 0 where
   pub read : List ℕ
   pub messages : List (List ℕ)
   pub replies : List (List ℕ)

@@ -8,9 +8,9 @@ use Rattle.std.specs.declared.io.ErrorKind.TheVariants as kinds
 use Rattle.session.specs.declared.output.Output as outputs
 use Rattle.session.specs.declared.output.OutputCall.{OutputCall}
 use Rattle.session.specs.declared.output.OutputCall.TheVariants.{Write, Flush, Other}
-use Rattle.session.specs.declared.serving.SessionFault.{SessionFault}
-use Rattle.session.specs.declared.serving.SessionFault.TheVariants.{Record, Input, Output, NoMemory, Truncated}
-use Rattle.session.specs.declared.serving.SessionFault.TheVariants.{Device}
+use Rattle.session.specs.declared.stream.SessionFault.{SessionFault}
+use Rattle.session.specs.declared.stream.SessionFault.TheVariants.{Record, Input, Output, NoMemory, Truncated}
+use Rattle.session.specs.declared.stream.SessionFault.TheVariants.{Device}
 
 -- the calls of a writer, as an output notes them
 abbrev pub Calls : Type 0
@@ -18,15 +18,15 @@ Calls = List (OutputCall × Unit {0})
 
 -- a call to write these bytes, which was answered so
 abbrev pub IsWrite : OutputCall → List ℕ → Result ℕ Error → Type 0
-IsWrite (Write buffer from told) bytes answer = (drop from.value buffer.value.items ≡ bytes) × (told.value ≡ answer)
-IsWrite (Flush told) bytes answer = ⊥
-IsWrite (Other told) bytes answer = ⊥
+IsWrite (Write buffer from call_result) bytes answer = (drop from.value buffer.value.items ≡ bytes) × (call_result.value ≡ answer)
+IsWrite (Flush call_result) bytes answer = ⊥
+IsWrite (Other call_result) bytes answer = ⊥
 
 -- a call to flush, which was answered so
 abbrev pub IsFlush : OutputCall → Result (Unit {0}) Error → Type 0
-IsFlush (Write buffer from told) answer = ⊥
-IsFlush (Flush told) answer = told.value ≡ answer
-IsFlush (Other told) answer = ⊥
+IsFlush (Write buffer from call_result) answer = ⊥
+IsFlush (Flush call_result) answer = call_result.value ≡ answer
+IsFlush (Other call_result) answer = ⊥
 
 -- how many of these bytes were taken
 abbrev pub taken_of : Result ℕ Error → List ℕ → List ℕ
@@ -35,9 +35,9 @@ taken_of (Err error) bytes = []
 
 -- the bytes that a call has written
 abbrev pub written_by : OutputCall → List ℕ
-written_by (Write buffer from told) = taken_of told.value (drop from.value buffer.value.items)
-written_by (Flush told) = []
-written_by (Other told) = []
+written_by (Write buffer from call_result) = taken_of call_result.value (drop from.value buffer.value.items)
+written_by (Flush call_result) = []
+written_by (Other call_result) = []
 
 abbrev pub all_written : Calls → List ℕ
 all_written calls = flat_map (λ (one : OutputCall × Unit {0}). written_by one.0) calls
@@ -48,9 +48,9 @@ LetsGoOn (Ok count) = 0 < count
 LetsGoOn (Err error) = error_kind error ≡ kinds.Interrupted
 
 abbrev pub WritesOn : OutputCall → Type 0
-WritesOn (Write buffer from told) = LetsGoOn told.value
-WritesOn (Flush told) = ⊥
-WritesOn (Other told) = ⊥
+WritesOn (Write buffer from call_result) = LetsGoOn call_result.value
+WritesOn (Flush call_result) = ⊥
+WritesOn (Other call_result) = ⊥
 
 abbrev pub AllWriteOn : Calls → Type 0
 AllWriteOn calls = All (λ (one : OutputCall × Unit {0}). WritesOn one.0) calls
@@ -83,18 +83,18 @@ pub data AreCutOff (part lost : List ℕ) (calls : Calls) : Type 0 where
   too_many : AllWriteOn calls → all_written calls ≡ part → length calls ≡ 2 ^ 64 - 1 → AreCutOff part lost calls
 
 -- an output: the bytes that its writer holds, where they are known, and its calls so far
-pub record Told : Type 0 where
+pub record OutputState : Type 0 where
   pub bytes : Option (List ℕ)
   pub calls : Calls
 
-abbrev pub told_of : {W : Type 0} → (W → Option (List ℕ)) → outputs.Output W → Told
-told_of contents output = record { bytes = contents output.writer; calls = output.calls.items }
+abbrev pub output_state_of : {W : Type 0} → (W → Option (List ℕ)) → outputs.Output W → OutputState
+output_state_of contents output = record { bytes = contents output.writer; calls = output.calls.items }
 
 abbrev pub written_of : {W : Type 0} → (W → Option (List ℕ)) → outputs.Output W → Option (List ℕ)
 written_of contents output = contents output.writer
 
 -- these bytes were written, by calls of this kind
-pub record Tells (first : Told) (bytes : List ℕ) (Do : Calls → Type 0) (written : Told) : Type 0 where
+pub record Tells (first : OutputState) (bytes : List ℕ) (Do : Calls → Type 0) (written : OutputState) : Type 0 where
   pub appended : Appends first.bytes written.bytes bytes
   pub calls : Calls
   pub more : written.calls ≡ first.calls ++ calls
@@ -108,7 +108,7 @@ AreAllSent (text ∷ texts) calls = (one : Calls) × (others : Calls) × (calls 
 
 -- A text wasn't written whole. With Output a part of it was, up to the call that failed; with NoMemory there was no
 -- call.
-abbrev pub IsUnwritten : SessionFault → Told → List ℕ → Told → Type 0
+abbrev pub IsUnwritten : SessionFault → OutputState → List ℕ → OutputState → Type 0
 IsUnwritten Output first text written = (part : List ℕ) × (lost : List ℕ) × (text ≡ part ++ lost)
     × Tells first part (AreCutOff part lost) written
 IsUnwritten NoMemory first text written = written ≡ first
@@ -118,6 +118,6 @@ IsUnwritten Truncated first text written = ⊥
 IsUnwritten Device first text written = ⊥
 
 -- what came of writing a text
-abbrev pub Writes : Told → List ℕ → Result (Unit {0}) SessionFault → Told → Type 0
+abbrev pub Writes : OutputState → List ℕ → Result (Unit {0}) SessionFault → OutputState → Type 0
 Writes first text (Ok _) written = Tells first text (AreSent text) written
 Writes first text (Err fault) written = IsUnwritten fault first text written

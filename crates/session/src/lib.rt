@@ -2,17 +2,17 @@
 //! thread, and its reply is written. The bytes of messages are `session_wire`'s.
 #![tactic(auto)]
 
-mod answering;
-mod noting;
+mod input;
 mod output;
-mod serving;
-mod writing;
+mod record_reply;
+mod replies;
+mod stream;
 
-pub use answering::reply_to;
-pub use noting::Input;
+pub use input::Input;
 pub use output::{Output, OutputCall};
-pub use serving::{SessionFault, serve};
+pub use record_reply::reply_to;
 pub use session_wire::{
     CallMessage, Judged, MessageCredential, MessageVerifier, ReplyBody, ReplyMessage, RpcReply,
     judge, mount_reply, reply_bytes,
 };
+pub use stream::{SessionFault, serve};

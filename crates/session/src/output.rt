@@ -53,7 +53,7 @@ impl<W: Write> Output<W> {
         ensures bound { WritesAtMost result (drop from buffer.now.items) }
         ensures bytes { WriteAppends (W.contents self.old.writer) (W.contents self.new.writer) result
             (drop from buffer.now.items) }
-        ensures noted { (call : OutputCall) × IsWrite call (drop from buffer.now.items) result
+        ensures traced { (call : OutputCall) × IsWrite call (drop from buffer.now.items) result
             × (self.new.calls.items ≡ self.old.calls.items ++ (call, tt) ∷ []) }
     {
         let answer = self.writer.write(&buffer.as_slice()[from..]);
@@ -85,7 +85,7 @@ impl<W: Write> Write for Output<W> {
 
     fn flush(&mut self) -> io::Result<()>
         ensures bytes { Keeps (W.contents self.old.writer) (W.contents self.new.writer) }
-        ensures noted { (call : OutputCall) × IsFlush call result
+        ensures traced { (call : OutputCall) × IsFlush call result
             × (self.new.calls.items ≡ self.old.calls.items ++ (call, tt) ∷ []) }
     {
         let answer = self.writer.flush();

@@ -33,7 +33,7 @@ use Rattle.session_wire.specs.Judging.{on_arguments, on_procedure, on_program, o
 use Rattle.session_wire.specs.Judging.{on_header}
 use Rattle.session_wire.specs.Judging.{on_opening, judged}
 use Rattle.xdr.proofs.Coded.{IsBytes}
-use Rattle.xdr.proofs.Coded.{front_bytes, back_bytes}
+use Rattle.xdr.proofs.Coded.{leading_bytes, back_bytes}
 use Rattle.nfs_codec.proofs.CallLaws.{taken_whole, read_again}
 use Rattle.session_wire.proofs.Numbered.{program_again, program_takes, program_fits, procedure_again}
 use Rattle.session_wire.proofs.Numbered.{procedure_takes, number_fits}
@@ -109,14 +109,14 @@ judged_again bytes m s =
 pub body_bytes : (h : Heading) (rest : List ℕ) → IsBytes (heading_bytes h ++ rest) → IsBytes h.body
 unfolding opaque
 body_bytes h rest fits =
-    let a = front_bytes (heading_bytes h) rest fits in
-    let b = front_bytes (word h.program ++ word h.version ++ word h.procedure ++ word h.flavor
+    let a = leading_bytes (heading_bytes h) rest fits in
+    let b = leading_bytes (word h.program ++ word h.version ++ word h.procedure ++ word h.flavor
     ++ opaque h.body ++ word h.verifier_flavor) (opaque h.verifier) a in
-    let c = front_bytes (word h.program ++ word h.version ++ word h.procedure ++ word h.flavor
+    let c = leading_bytes (word h.program ++ word h.version ++ word h.procedure ++ word h.flavor
     ++ opaque h.body) (word h.verifier_flavor) b in
     let d = back_bytes (word h.program ++ word h.version ++ word h.procedure ++ word h.flavor) (opaque h.body)
     c in
-    let e = front_bytes (word (length h.body) ++ h.body) (replicate (padding (length h.body)) 0) d in
+    let e = leading_bytes (word (length h.body) ++ h.body) (replicate (padding (length h.body)) 0) d in
     back_bytes (word (length h.body)) h.body e
 
 -- a choice that ends in the second only where that isn't so

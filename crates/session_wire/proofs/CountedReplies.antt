@@ -17,9 +17,9 @@ use Rattle.xdr.specs.Codes.{some_too_long, chain, counted}
 use Rattle.nfs_codec.specs.Items.{handle, text, moment, verifier, device, kind, stability, attributes}
 use Rattle.nfs_codec.specs.Items.{optional_attributes, weak_cache_attributes, before_attributes, weak_cache}
 use Rattle.nfs_codec.specs.Items.{optional_handle}
-use Rattle.nfs_results.specs.Results.{by_status, alone_parts, alone_made, alone, behind_made, behind_parts}
+use Rattle.nfs_results.specs.Results.{by_status, default_void_parts, default_void_made, default_void, behind_made, behind_parts}
 use Rattle.nfs_results.specs.Results.{behind}
-use Rattle.nfs_results.specs.Results.{before_made, before_parts, before, looked, read_bytes, written, created}
+use Rattle.nfs_results.specs.Results.{before_made, before_parts, before, lookup_result, read_bytes, written, created}
 use Rattle.nfs_results.specs.Results.{entry}
 use Rattle.nfs_results.specs.Results.{entries, listed, entry_plus, entries_plus, listed_plus, space, info}
 use Rattle.nfs_results.specs.Results.{limits}
@@ -149,8 +149,8 @@ either_counts F G f g (inr x) fits = g.counts x.1 fits
 statuses_are : {A B : Type 0} (F : Code A) (G : Code B) → IsCounted F → IsCounted G → IsCounted (by_status F G)
 statuses_are F G f g = record { counts = either_counts F G f g }
 
-alones : {A : Type 0} (F : Code A) → IsCounted F → IsCounted (alone F)
-alones F f = vieweds alone_made alone_parts (by_status F nothing) (statuses_are F nothing f nothings)
+default_voids : {A : Type 0} (F : Code A) → IsCounted F → IsCounted (default_void F)
+default_voids F f = vieweds default_void_made default_void_parts (by_status F nothing) (statuses_are F nothing f nothings)
 
 behinds : {A B : Type 0} (F : Code B) (G : Code A) → IsCounted F → IsCounted G → IsCounted (behind F G)
 behinds F G f g =
@@ -164,9 +164,9 @@ befores F G f g =
 
 -- ---- what comes after OK
 
-looked_is : IsCounted looked
-unfolding looked
-looked_is = vieweds _ _ _ (thens handle optional_attributes handles optional_attributes_are)
+lookup_result_is : IsCounted lookup_result
+unfolding lookup_result
+lookup_result_is = vieweds _ _ _ (thens handle optional_attributes handles optional_attributes_are)
 
 read_bytes_are : IsCounted read_bytes
 unfolding read_bytes
@@ -231,7 +231,7 @@ mounted_is = vieweds _ _ _ (thens handle flavors handles flavors_are)
 
 get_attrs : IsCounted get_attr
 unfolding get_attr
-get_attrs = alones attributes attributes_are
+get_attrs = default_voids attributes attributes_are
 
 set_attrs : IsCounted set_attr
 unfolding set_attr
@@ -239,7 +239,7 @@ set_attrs = behinds weak_cache nothing weak_caches nothings
 
 lookups : IsCounted lookup
 unfolding lookup
-lookups = befores looked optional_attributes looked_is optional_attributes_are
+lookups = befores lookup_result optional_attributes lookup_result_is optional_attributes_are
 
 accesses : IsCounted access
 unfolding access
@@ -301,7 +301,7 @@ commits = behinds weak_cache verifier weak_caches verifiers
 
 mount_roots : IsCounted mount_root
 unfolding mount_root
-mount_roots = alones mounted mounted_is
+mount_roots = default_voids mounted mounted_is
 
 -- ---- replies
 

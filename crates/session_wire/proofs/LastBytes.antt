@@ -1,5 +1,5 @@
 -- What a header leaves are the last bytes of its message.
-use Rattle.std.proofs.Common.{◌≡◌, ◌≤◌, ◌+◌, ◌-◌, ◌∙◌, ℕ, List, ◌++◌, length, take, drop, Ok, ap, sym, subst, arith}
+use Rattle.std.proofs.Common.{◌≡◌, ◌+◌, ◌-◌, ◌∙◌, ℕ, List, ◌++◌, length, take, drop, Ok, ap, sym, subst, arith}
 use Rattle.std.proofs.Common.{append_assoc, length-append}
 use Rattle.std.proofs.lemmas.List.{drop_at, take-append-drop}
 use Rattle.rpc.specs.Headers.{Heading, header_at, opening_at}
@@ -8,12 +8,12 @@ use Rattle.session_wire.specs.Judging.{AreLast}
 use Rattle.session_wire.proofs.CodedHeaders.{heading_bytes, headings, opening_bytes, openings}
 use Rattle.xdr.proofs.Coded.{IsBytes, IsBytes-drop}
 
-ends : (bytes front rest : List ℕ) → bytes ≡ front ++ rest → AreLast bytes rest
-ends bytes front rest are =
-    let counted : length bytes ≡ length front + length rest = ap length are ∙ length-append front rest in (
+ends : (bytes reply_header rest : List ℕ) → bytes ≡ reply_header ++ rest → AreLast bytes rest
+ends bytes reply_header rest are =
+    let counted : length bytes ≡ length reply_header + length rest = ap length are ∙ length-append reply_header rest in (
       omega (arith, counted),
       ap (λ (all : List ℕ). drop (length bytes - length rest) all) are
-          ∙ drop_at front rest (length bytes - length rest) (omega (arith, counted)),
+          ∙ drop_at reply_header rest (length bytes - length rest) (omega (arith, counted)),
     )
 
 -- the first part of a header leaves the last bytes

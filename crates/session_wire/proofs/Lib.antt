@@ -1,8 +1,7 @@
 pub mod Numbered
 pub mod CodedHeaders
-pub mod Behind
 pub mod LastBytes
-pub mod Fronts
+mod Capacity
 pub mod CallLaws
 pub mod ReplyLaws
 pub mod ServedStreams

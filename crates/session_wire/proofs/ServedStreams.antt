@@ -24,7 +24,7 @@ use Rattle.session_wire.specs.Judging.{judged}
 use Rattle.rpc.specs.Refused.{refused}
 use Rattle.session_wire.specs.Served.{FailsWithin, HasBroken, HasFailed, HasNoCause, IsCallReply, IsDone, IsLater}
 use Rattle.session_wire.specs.Served.{IsNfsDone, IsNfsReply, IsPlain, IsReplyTo, IsTransactionReply}
-use Rattle.session_wire.specs.Served.{FindsNoRoom, IsServable, LacksMemory, LacksRoom, LosesWithin, Rests, Serving}
+use Rattle.session_wire.specs.Served.{FindsNoLogSpace, IsServable, LacksMemory, LacksLogSpace, LosesWithin, Rests, Serving}
 use Rattle.session_wire.specs.Served.{Standing, Stays}
 use Rattle.session_wire.specs.Served.{Steps, all_done, done, done_but_for_memory, nfs_done, served}
 use Rattle.session_wire.proofs.CallLaws.{judged_takes}
@@ -48,11 +48,11 @@ pub refusal : (s : Serving) (old new : Standing) (xid : ℕ) (why : Refusal) (me
 refusal s old new xid why message messages [] is all =
     let no : Refused xid why ≡ Closed = sym is ∙ all.0 in cc
 refusal s old new xid why message messages (reply ∷ replies) is all =
-    let told : (reply ≡ refused xid why) × (all.0 ≡ old) =
+    let proven : (reply ≡ refused xid why) × (all.0 ≡ old) =
     subst (λ (j : Judged). IsReplyTo s old j reply all.0) is all.1 in (
       replies,
-      ap (λ r. r ∷ replies) told.0,
-      subst (λ middle. served s middle messages replies new) told.1 all.2,
+      ap (λ r. r ∷ replies) proven.0,
+      subst (λ middle. served s middle messages replies new) proven.1 all.2,
     )
 
 pub joined : (s : Serving) (old middle new : Standing) (first second replies others : List (List ℕ))
@@ -128,26 +128,26 @@ on s a b c first second = record {
 module _ (s : Serving) (old new : Standing) (bytes : List ℕ) where
   served-on : (xid : ℕ) (credential : Credential) (call : types.Call)
       → IsTransactionReply s old xid credential call bytes new → IsLater s old new
-  served-on xid credential call (IsTransactionReply.Done reply taken told) = taken.later
-  served-on xid credential call (IsTransactionReply.NoMemory stays told) = stays.later
-  served-on xid credential call (IsTransactionReply.Spent stays spent told) = stays.later
-  served-on xid credential call (IsTransactionReply.Failed stays failed told) = stays.later
-  served-on xid credential call (IsTransactionReply.Unsettled reply taken failed waits told) = taken.later
+  served-on xid credential call (IsTransactionReply.Done reply taken proven) = taken.later
+  served-on xid credential call (IsTransactionReply.NoMemory stays proven) = stays.later
+  served-on xid credential call (IsTransactionReply.Spent stays spent proven) = stays.later
+  served-on xid credential call (IsTransactionReply.Failed stays failed proven) = stays.later
+  served-on xid credential call (IsTransactionReply.Unsettled reply taken failed waits proven) = taken.later
 
   nfs-on : (rules : Bool) (xid : ℕ) (credential : Credential) (call : types.Call)
       → IsNfsReply s old rules xid credential call bytes new → IsLater s old new
-  nfs-on true xid credential call told = served-on xid credential call told
-  nfs-on false xid credential call told = told.0.stays.later
+  nfs-on true xid credential call proven = served-on xid credential call proven
+  nfs-on false xid credential call proven = proven.0.stays.later
 
   call-on : (xid : ℕ) (credential : Credential) (call : ProgramCall)
       → IsCallReply s old xid credential call bytes new → IsLater s old new
-  call-on xid credential (program_calls.Nfs call) told = nfs-on (begins_transaction call) xid credential call told
-  call-on xid credential (program_calls.Mount call) told = same s old new told.0
+  call-on xid credential (program_calls.Nfs call) proven = nfs-on (begins_transaction call) xid credential call proven
+  call-on xid credential (program_calls.Mount call) proven = same s old new proven.0
 
   reply-on : (j : Judged) → IsReplyTo s old j bytes new → IsLater s old new
-  reply-on Closed told = absurd told
-  reply-on (Refused xid why) told = same s old new told.1
-  reply-on (Call xid credential call) told = call-on xid credential call told
+  reply-on Closed proven = absurd proven
+  reply-on (Refused xid why) proven = same s old new proven.1
+  reply-on (Call xid credential call) proven = call-on xid credential call proven
 
 pub later : (s : Serving) (old new : Standing) (messages replies : List (List ℕ))
     → served s old messages replies new → IsLater s old new
@@ -163,8 +163,8 @@ module _ (s : Serving) (old new : Standing) (bytes : List ℕ) where
   nfs_served : (rules : Bool) (xid : ℕ) (credential : Credential) (call : types.Call)
       → IsNfsDone s old rules xid credential call bytes new
       → IsNfsReply s old rules xid credential call bytes new
-  nfs_served true xid credential call (reply, taken, told) = IsTransactionReply.Done reply taken told
-  nfs_served false xid credential call (rests, told) = (rests, inl told)
+  nfs_served true xid credential call (reply, taken, proven) = IsTransactionReply.Done reply taken proven
+  nfs_served false xid credential call (rests, proven) = (rests, inl proven)
 
   reply_served : (j : Judged) → IsDone s old j bytes new → IsReplyTo s old j bytes new
   reply_served Closed is = absurd is
@@ -184,8 +184,8 @@ done_served s old new (message ∷ messages) (reply ∷ replies) all =
 -- ---- without a cause nothing fails
 
 -- what has no room has none later
-lacks_on : (s : Serving) (old new : Standing) (added : ℕ) → IsLater s old new → LacksRoom old added
-    → LacksRoom new added
+lacks_on : (s : Serving) (old new : Standing) (added : ℕ) → IsLater s old new → LacksLogSpace old added
+    → LacksLogSpace new added
 lacks_on s old new added later (inl place) = inl (let places = later.places in omega (arith, places, place))
 lacks_on s old new added later (inr lacks) = inr (record {
   some = lacks.some;
@@ -205,7 +205,7 @@ first_part s old middle new later none = record {
   none_fails = λ fails. none.none_fails
       (fails_longer s old.clock old.clock middle.clock new.clock (omega arith) later.clock fails);
   numbers = let more = later.numbers in let left = none.numbers in omega (arith, more, left);
-  room = λ number from to lacks. none.room number from
+  log_space = λ number from to lacks. none.log_space number from
       (let more = later.numbers in omega (arith, to, more))
       (lacks_on s middle new (s.added number) later lacks);
 }
@@ -219,7 +219,7 @@ last_part s old middle new first later none = record {
   none_fails = λ fails. none.none_fails
       (fails_longer s old.clock middle.clock new.clock new.clock first.clock (omega arith) fails);
   numbers = none.numbers;
-  room = λ number from to lacks. none.room number
+  log_space = λ number from to lacks. none.log_space number
       (let more = first.numbers in omega (arith, from, more)) to lacks;
 }
 
@@ -234,10 +234,10 @@ not_broken s old new none (inr broken) = let whole = none.whole in cc
 
 -- a counter that is spent would be one
 not_spent : (s : Serving) (old new : Standing) (credential : Credential) (call : types.Call) → HasNoCause s old new
-    → (2 ^ 64 ≤ new.number) ⊎ FindsNoRoom s old credential call new → ⊥
+    → (2 ^ 64 ≤ new.number) ⊎ FindsNoLogSpace s old credential call new → ⊥
 not_spent s old new credential call none (inl number) = let left = none.numbers in omega (arith, number, left)
 not_spent s old new credential call none (inr finds) =
-    none.room new.number (let fresh = finds.fresh in let rising = finds.rising in omega (arith, fresh, rising))
+    none.log_space new.number (let fresh = finds.fresh in let rising = finds.rising in omega (arith, fresh, rising))
     (omega arith) finds.lacks
 
 module _ (s : Serving) (old new : Standing) (bytes : List ℕ) (none : HasNoCause s old new) where
@@ -245,44 +245,44 @@ module _ (s : Serving) (old new : Standing) (bytes : List ℕ) (none : HasNoCaus
       → IsTransactionReply s old xid credential call bytes new
       → IsNfsDone s old true xid credential call bytes new
       ⊎ (Stays s old new × (bytes ≡ refused xid SystemError))
-  with_rules xid credential call (IsTransactionReply.Done reply taken told) = inl (reply, taken, told)
-  with_rules xid credential call (IsTransactionReply.NoMemory stays told) = inr (stays, told)
-  with_rules xid credential call (IsTransactionReply.Spent stays is told) =
+  with_rules xid credential call (IsTransactionReply.Done reply taken proven) = inl (reply, taken, proven)
+  with_rules xid credential call (IsTransactionReply.NoMemory stays proven) = inr (stays, proven)
+  with_rules xid credential call (IsTransactionReply.Spent stays is proven) =
       absurd (not_spent s old new credential call none is.spent)
-  with_rules xid credential call (IsTransactionReply.Failed stays failed told) =
+  with_rules xid credential call (IsTransactionReply.Failed stays failed proven) =
       absurd (not_failed s old new none failed)
-  with_rules xid credential call (IsTransactionReply.Unsettled reply taken broken waits told) =
+  with_rules xid credential call (IsTransactionReply.Unsettled reply taken broken waits proven) =
       absurd (not_broken s old new none broken)
 
   of_nfs : (rules : Bool) (xid : ℕ) (credential : Credential) (call : types.Call)
       → IsNfsReply s old rules xid credential call bytes new
       → IsNfsDone s old rules xid credential call bytes new
       ⊎ (Stays s old new × (bytes ≡ refused xid SystemError))
-  of_nfs true xid credential call told = with_rules xid credential call told
-  of_nfs false xid credential call (rests, inl told) = inl (rests, told)
-  of_nfs false xid credential call (rests, inr told) = inr (rests.stays, told)
+  of_nfs true xid credential call proven = with_rules xid credential call proven
+  of_nfs false xid credential call (rests, inl proven) = inl (rests, proven)
+  of_nfs false xid credential call (rests, inr proven) = inr (rests.stays, proven)
 
   of_mount : (xid : ℕ) (call : ProgramCall) → new ≡ old → IsPlain xid call bytes
       → ((new ≡ old) × (bytes ≡ done xid (plain_reply call)))
       ⊎ (Stays s old new × (bytes ≡ refused xid SystemError))
-  of_mount xid call is (inl told) = inl (is, told)
-  of_mount xid call is (inr told) = inr (
+  of_mount xid call is (inl proven) = inl (is, proven)
+  of_mount xid call is (inr proven) = inr (
     record {
       later = same s old new is;
       tree = ap (λ (at : Standing). at.tree) is;
       places = ap (λ (at : Standing). at.places) is;
     },
-    told,
+    proven,
   )
 
   of_message : (j : Judged) → IsReplyTo s old j bytes new
       → IsDone s old j bytes new ⊎ LacksMemory s old j bytes new
-  of_message Closed told = absurd told
-  of_message (Refused xid why) told = inl told
-  of_message (Call xid credential (program_calls.Nfs call)) told =
-      of_nfs (begins_transaction call) xid credential call told
-  of_message (Call xid credential (program_calls.Mount call)) told =
-      of_mount xid (program_calls.Mount call) told.0 told.1
+  of_message Closed proven = absurd proven
+  of_message (Refused xid why) proven = inl proven
+  of_message (Call xid credential (program_calls.Nfs call)) proven =
+      of_nfs (begins_transaction call) xid credential call proven
+  of_message (Call xid credential (program_calls.Mount call)) proven =
+      of_mount xid (program_calls.Mount call) proven.0 proven.1
 
 pub without_cause : (s : Serving) (old new : Standing) (messages replies : List (List ℕ))
     → served s old messages replies new → HasNoCause s old new
@@ -428,13 +428,13 @@ can_be_served s old [] can = ([], old, (tt, refl), (tt, refl))
 can_be_served s old (message ∷ messages) can =
     elim (replied s old message messages can (judged message) refl) [
       | inl closes ↦ ([], old, (closes, refl), (closes, refl))
-      | inr told ↦
-          let rest = can_be_served s told.new messages (record {
-            sound = told.sound;
+      | inr proven ↦
+          let rest = can_be_served s proven.new messages (record {
+            sound = proven.sound;
             moment = can.moment;
             boot = can.boot;
-            numbers = let left = can.numbers in let one = told.number in omega (arith, left, one);
+            numbers = let left = can.numbers in let one = proven.number in omega (arith, left, one);
             bytes = can.bytes.1;
           }) in
-          (told.bytes ∷ rest.0, rest.1, (told.new, told.is, rest.2), (told.new, told.well, rest.3))
+          (proven.bytes ∷ rest.0, rest.1, (proven.new, proven.is, rest.2), (proven.new, proven.well, rest.3))
     ]

@@ -64,5 +64,5 @@ judged bytes = on_opening (opening_at bytes)
 
 -- the same, but that a call for which memory was refused has a system error
 abbrev pub Judges : Judged → Judged → Type 0
-Judges told (Call xid credential call) = (told ≡ Call xid credential call) ⊎ (told ≡ Refused xid SystemError)
-Judges told verdict = told ≡ verdict
+Judges judged_verdict (Call xid credential call) = (judged_verdict ≡ Call xid credential call) ⊎ (judged_verdict ≡ Refused xid SystemError)
+Judges judged_verdict verdict = judged_verdict ≡ verdict

@@ -1,5 +1,5 @@
 -- How replies are spelled (RFC 5531, sections 9 and 11).
-use Rattle.std.specs.Prelude.{◌≡◌, ◌<◌, ◌≤◌, ◌^◌, ◌⊎◌, ℕ, Bool, true, false, List, [], length, ◌++◌}
+use Rattle.std.specs.Prelude.{◌≡◌, ◌<◌, ◌≤◌, ◌^◌, ◌⊎◌, ℕ, Bool, true, false, List, length, ◌++◌}
 use Rattle.session_wire.specs.declared.message.RpcReply.{RpcReply}
 use Rattle.session_wire.specs.declared.message.RpcReply.TheVariants.{Nfs, Mount, Refused}
 use Rattle.session_wire.specs.declared.message.ReplyBody.{ReplyBody}
@@ -9,21 +9,12 @@ use Rattle.session_wire.specs.declared.message.ReplyMessage.{ReplyMessage}
 use Rattle.nfs_types.specs.declared.program.ProgramProcedure.{ProgramProcedure}
 use Rattle.nfs_types.specs.declared.program.ProgramReply.TheVariants as program_replies
 use Rattle.nfs_codec.specs.Procedures.{replied_to}
-use Rattle.nfs_results.specs.Results.{result_bytes, front_bytes, data_bytes, too_long, ReplyFits}
+use Rattle.nfs_results.specs.Results.{result_bytes, too_long, ReplyFits}
 
 -- the one spelling of a reply
 abbrev pub reply_bytes : ℕ → ReplyBody → List ℕ
 reply_bytes xid (bodies.Done reply) = accepted xid 0 ++ result_bytes reply
 reply_bytes xid (bodies.Refused refusal) = refused xid refusal
-
--- all of it but the data of a READ, and these
-abbrev pub front_of : ℕ → ReplyBody → List ℕ
-front_of xid (bodies.Done reply) = accepted xid 0 ++ front_bytes reply
-front_of xid (bodies.Refused refusal) = refused xid refusal
-
-abbrev pub data_of : ReplyBody → List ℕ
-data_of (bodies.Done reply) = data_bytes reply
-data_of (bodies.Refused refusal) = []
 
 -- an answer as the body of a reply
 abbrev pub body_of : RpcReply → ReplyBody

@@ -115,12 +115,12 @@ pub record LacksPositions (at : Standing) (added : ℕ) : Type 0 where
   pub none : 2 ^ 64 ≤ at.positions + added
 
 -- no place is left for a change of so many blocks, or too few log positions
-abbrev pub LacksRoom : Standing → ℕ → Type 0
-LacksRoom at added = (2 ^ 64 ≤ at.places + 1) ⊎ LacksPositions at added
+abbrev pub LacksLogSpace : Standing → ℕ → Type 0
+LacksLogSpace at added = (2 ^ 64 ≤ at.places + 1) ⊎ LacksPositions at added
 
 -- There was no room for the change of the call: for that of a step of the sequential server from the tree, in a
 -- transaction whose number no earlier one has. The step wasn't made.
-pub record FindsNoRoom (s : Serving) (old : Standing) (credential : Credential) (call : types.Call)
+pub record FindsNoLogSpace (s : Serving) (old : Standing) (credential : Credential) (call : types.Call)
     (new : Standing) : Type 0 where
   pub number : ℕ
   pub fresh : old.number ≤ number
@@ -133,14 +133,14 @@ pub record FindsNoRoom (s : Serving) (old : Standing) (credential : Credential) 
     boot = s.boot;
     transaction = number;
   }) call reply tree
-  pub lacks : LacksRoom new (s.added new.number)
+  pub lacks : LacksLogSpace new (s.added new.number)
 
 -- Of a store that wasn't broken before the message, no number of a transaction is left, or no room for the change of
 -- the call.
 pub record IsSpent (s : Serving) (old : Standing) (credential : Credential) (call : types.Call)
     (new : Standing) : Type 0 where
   pub sound : old.is_broken ≡ false
-  pub spent : (2 ^ 64 ≤ new.number) ⊎ FindsNoRoom s old credential call new
+  pub spent : (2 ^ 64 ≤ new.number) ⊎ FindsNoLogSpace s old credential call new
 
 -- a procedure's reply behind the accepted header
 abbrev pub done : ℕ → ProgramReply → List ℕ
@@ -259,4 +259,4 @@ pub record HasNoCause (s : Serving) (old new : Standing) : Type 0 where
   pub whole : old.is_broken ≡ false
   pub none_fails : FailsWithin s old.clock new.clock → ⊥
   pub numbers : new.number < 2 ^ 64
-  pub room : (number : ℕ) → old.number < number → number ≤ new.number → LacksRoom new (s.added number) → ⊥
+  pub log_space : (number : ℕ) → old.number < number → number ≤ new.number → LacksLogSpace new (s.added number) → ⊥

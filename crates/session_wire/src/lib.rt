@@ -2,24 +2,24 @@
 //! of them is answered.
 #![tactic(auto)]
 
-mod judging;
-mod laws;
+mod judgement;
 mod message;
-mod mounting;
+mod message_laws;
+mod mount_replies;
 mod programs;
 mod reply;
 mod streams;
 
-pub use judging::judge;
-pub use laws::{
-    calls_have_one_spelling, calls_share_no_spelling, judged_calls_are_spelled,
-    replies_have_one_spelling, replies_share_no_spelling, spelled_calls_are_judged_so,
-    spelled_replies_are_read, what_fits_is_too_long_by_its_bytes_alone,
-};
+pub use judgement::judge;
 pub use message::{
     CallMessage, Judged, MessageCredential, MessageVerifier, ReplyBody, ReplyMessage, RpcReply,
 };
-pub use mounting::mount_reply;
+pub use message_laws::{
+    calls_have_one_spelling, calls_share_no_spelling, judged_calls_are_spelled,
+    replies_have_one_spelling, replies_share_no_spelling, spelled_calls_are_judged_so,
+    spelled_replies_are_read, what_fits_is_too_long_only_by_its_bytes,
+};
+pub use mount_replies::mount_reply;
 pub use reply::{append_reply, reply_bytes};
 pub use streams::{
     a_closed_connection_gets_no_reply, a_refused_call_gets_its_refusal, a_stream_goes_on,

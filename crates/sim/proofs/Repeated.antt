@@ -23,7 +23,7 @@ repeated_none old events = append-nil old
 -- two events more, pushed one by one
 pub two_more : (items old : List Event) (times : ℕ) (a b : Event) → items ≡ old ++ repeated times (a ∷ b ∷ [])
     → items ++ a ∷ [] ++ b ∷ [] ≡ old ++ repeated (times + 1) (a ∷ b ∷ [])
-two_more items old times a b is = ap (λ (front : List Event). front ++ a ∷ [] ++ b ∷ []) is
+two_more items old times a b is = ap (λ (leading : List Event). leading ++ a ∷ [] ++ b ∷ []) is
     ∙ append_assoc (old ++ repeated times (a ∷ b ∷ [])) (a ∷ []) (b ∷ [])
     ∙ append_assoc old (repeated times (a ∷ b ∷ [])) (a ∷ b ∷ [])
     ∙ ap (λ (more : List Event). old ++ more) (sym (repeated_more times (a ∷ b ∷ [])))
@@ -32,8 +32,8 @@ two_more items old times a b is = ap (λ (front : List Event). front ++ a ∷ []
 pub three_more : (items old : List Event) (times : ℕ) (a b c : Event)
     → items ≡ old ++ repeated times (a ∷ b ∷ c ∷ [])
     → items ++ a ∷ [] ++ b ∷ [] ++ c ∷ [] ≡ old ++ repeated (times + 1) (a ∷ b ∷ c ∷ [])
-three_more items old times a b c is = ap (λ (front : List Event). front ++ a ∷ [] ++ b ∷ [] ++ c ∷ []) is
-    ∙ ap (λ (front : List Event). front ++ c ∷ [])
+three_more items old times a b c is = ap (λ (leading : List Event). leading ++ a ∷ [] ++ b ∷ [] ++ c ∷ []) is
+    ∙ ap (λ (leading : List Event). leading ++ c ∷ [])
     (append_assoc (old ++ repeated times (a ∷ b ∷ c ∷ [])) (a ∷ []) (b ∷ []))
     ∙ append_assoc (old ++ repeated times (a ∷ b ∷ c ∷ [])) (a ∷ b ∷ []) (c ∷ [])
     ∙ append_assoc old (repeated times (a ∷ b ∷ c ∷ [])) (a ∷ b ∷ c ∷ [])

@@ -11,22 +11,22 @@ use Rattle.nfs_spec.specs.Model.Tree.{Tree}
 use Rattle.store_promise.specs.GoodImage.{IsGoodImage}
 use Rattle.store_promise.specs.declared.fault.OpenFault.{OpenFault}
 use Rattle.store_promise.specs.declared.fault.OpenFault.TheVariants as opening
-use Rattle.circ.specs.Log.Recovery.{HasOnlyRead, IsUnspoiled, image_of}
+use Rattle.circ.specs.Log.Recovery.{HasOnlyRead, IsCertain, image_of}
 
 -- what a look at the files gives, where one was asked for
-abbrev pub Looked : Type 0
-Looked = Option (Result (Vec Line Global) OpenFault)
+abbrev pub ScannedFiles : Type 0
+ScannedFiles = Option (Result (Vec Line Global) OpenFault)
 
 -- a device was only read, and the files were told, as those of the tree where its image is a good one
 pub record HasSeen (old new : MemDisk) (answer : Result (Vec Line Global) OpenFault) : Type 0 where
   pub reads : HasOnlyRead (memory_device old) (memory_device new)
-  pub shown : IsUnspoiled (memory_device old) → (tree : Tree) (boot : ℕ)
+  pub shown : IsCertain (memory_device old) → (tree : Tree) (boot : ℕ)
       → IsGoodImage (memory_device old).size (image_of (memory_device old)) tree boot → IsShown tree boot answer
 
-abbrev pub HasLooked : Bool → MemDisk → MemDisk → Looked → Type 0
-HasLooked true old new (Some answer) = HasSeen old new answer
-HasLooked false old new None = new ≡ old
-HasLooked shows old new looked = ⊥
+abbrev pub HasScannedFiles : Bool → MemDisk → MemDisk → ScannedFiles → Type 0
+HasScannedFiles true old new (Some answer) = HasSeen old new answer
+HasScannedFiles false old new None = new ≡ old
+HasScannedFiles shows old new scanned_files = ⊥
 
 abbrev pub show_refused_line : OpenFault → List ℕ
 show_refused_line opening.Magic = codes "show refused 1 Magic\n"
@@ -37,7 +37,7 @@ show_refused_line opening.Device = codes "show refused 5 Device\n"
 show_refused_line opening.NoMemory = codes "show refused 6 NoMemory\n"
 
 -- what is printed of a look
-abbrev pub looked_lines : Looked → List ℕ
-looked_lines None = []
-looked_lines (Some (Ok lines)) = lines_text lines.items
-looked_lines (Some (Err fault)) = show_refused_line fault
+abbrev pub scan_lines : ScannedFiles → List ℕ
+scan_lines None = []
+scan_lines (Some (Ok lines)) = lines_text lines.items
+scan_lines (Some (Err fault)) = show_refused_line fault

@@ -2,8 +2,8 @@
 use Rattle.std.specs.Prelude.{ℕ, List, [], ◌∷◌, ◌++◌, codes}
 use Rattle.std.specs.Fmt.{decimal}
 use Rattle.hex.specs.Hex.{encode_lower}
-use Rattle.store_images.specs.declared.formatting.FormatFault.{FormatFault}
-use Rattle.store_images.specs.declared.formatting.FormatFault.TheVariants as format
+use Rattle.store_images.specs.declared.formatter.FormatFault.{FormatFault}
+use Rattle.store_images.specs.declared.formatter.FormatFault.TheVariants as format
 use Rattle.store_promise.specs.declared.fault.OpenFault.{OpenFault}
 use Rattle.store_promise.specs.declared.fault.OpenFault.TheVariants as opening
 

@@ -9,14 +9,14 @@ use Rattle.layout.specs.Geometry.{IsLawful}
 use Rattle.base.specs.declared.TheConstants.{BLOCK_BYTES, NANOSECONDS}
 use Rattle.nfs_spec.specs.Model.Tree.{Tree}
 use Rattle.nfs_types.specs.declared.ctx.Moment.{Moment}
-use Rattle.store_images.specs.declared.formatting.FormatFault.{FormatFault}
+use Rattle.store_images.specs.declared.formatter.FormatFault.{FormatFault}
 use Rattle.store_promise.specs.Headline.{IsPromised}
 use Rattle.store_promise.specs.Openings.{IsFormatted}
 use Rattle.store_promise.specs.Transcript.{Report}
 use Rattle.store_promise.specs.declared.fault.OpenFault.{OpenFault}
 use Rattle.store.specs.Runs.FormattedRun.{IsNewDevice, IsNotMade}
 use Rattle.sim.specs.Crashing.{IsLeft, IsPoked}
-use Rattle.sim.specs.Files.{HasLooked, Looked, looked_lines}
+use Rattle.sim.specs.Files.{HasScannedFiles, ScannedFiles, scan_lines}
 use Rattle.sim.specs.Lines.{boot_line, format_refused_line, open_refused_line}
 use Rattle.sim.specs.Replies.{reply_lines}
 use Rattle.sim.specs.Segments.{Happened, nothing, with_action, with_show}
@@ -51,25 +51,25 @@ pub record IsFailing (fails : List ℕ) (disk failing : MemDisk) : Type 0 where
 -- what happened was a run of the store, which keeps its promise and took all events; what it tells is printed
 pub record IsRun (disk : MemDisk) (happened : Happened) (left : MemDisk) (printed : List ℕ) : Type 0 where
   pub seen : MemDisk
-  pub looked : Looked
+  pub scanned_files : ScannedFiles
   pub before : MemDisk
   pub report : Report
-  pub looks : HasLooked happened.shows disk seen looked
+  pub looks : HasScannedFiles happened.shows disk seen scanned_files
   pub fails : IsFailing happened.fails seen before
   pub promised : (tree : Tree) (first : ℕ) → IsPromised (Unit {0}) (memory_device before) (memory_device left) tree
       first WORKERS happened.events (Ok report)
-  pub all : length report.told.steps ≡ length happened.events
-  pub prints : printed ≡ boot_line report.told.boot ++ looked_lines looked
-      ++ reply_lines happened.handed report.told.steps report.told.answers
+  pub all : length report.run_transcript.steps ≡ length happened.events
+  pub prints : printed ≡ boot_line report.run_transcript.boot ++ scan_lines scanned_files
+      ++ reply_lines happened.handed report.run_transcript.steps report.run_transcript.answers
 
 -- or the image was refused, and that is printed
 pub record IsRefusal (disk : MemDisk) (happened : Happened) (printed : List ℕ) : Type 0 where
   pub seen : MemDisk
-  pub looked : Looked
+  pub scanned_files : ScannedFiles
   pub before : MemDisk
   pub left : MemDisk
   pub fault : OpenFault
-  pub looks : HasLooked happened.shows disk seen looked
+  pub looks : HasScannedFiles happened.shows disk seen scanned_files
   pub fails : IsFailing happened.fails seen before
   pub promised : (tree : Tree) (first : ℕ) → IsPromised (Unit {0}) (memory_device before) (memory_device left) tree
       first WORKERS happened.events (Err fault)

@@ -1,14 +1,14 @@
 //! Runs the commands of a script over a device in memory, by `store::run`, and prints what comes of them.
 #![tactic(auto)]
 
-mod crashing;
+mod crash;
 mod events;
 mod fault;
 mod handed;
+mod image_files;
 mod lines;
-mod looking;
 mod new_image;
-mod playing;
+mod play;
 mod replies;
 mod segment;
 mod simulation;

@@ -4,11 +4,11 @@ ghost use Rattle.sim.specs.Simulated.{Does, Ends, HasPoked, IsMade, IsPlayed, Is
 ghost use Rattle.sim.specs.Simulated.{acted, is_within, moment_after, next_moment, opened, shown};
 ghost use Rattle.nfs_spec.specs.Model.Sound.{SoundTime};
 
-use crate::crashing::{crashed, poke};
+use crate::crash::{crashed, poke};
 use crate::fault::SimFault;
 use crate::lines::print_format_refused;
 use crate::new_image::image;
-use crate::playing::play;
+use crate::play::play;
 use crate::segment::Segment;
 use crate::stage::Stage;
 use base::{BLOCK_BYTES, NANOSECONDS};

@@ -7,7 +7,7 @@ use Rattle.disk.specs.Memory.{Blocks, Past, held_at}
 use Rattle.store_promise.specs.declared.transcript.Answer.{Answer}
 use Rattle.store_promise.specs.declared.transcript.Committed.{Committed}
 use Rattle.sim_stops.specs.Promised.{promised_by, promised_from}
-use Rattle.sim_stops.specs.CrashChoices.{alone_choice, counts_in, each_choice, product_from}
+use Rattle.sim_stops.specs.CrashChoices.{single_choice, counts_in, each_choice, product_from}
 
 -- what a device holds now is what it holds behind all of its calls
 pub held_now : (now : Blocks) (past : Past) → held_at now past (length past) ≡ now
@@ -84,17 +84,17 @@ each_end done number counts index past =
     ap (λ (left : List ℕ). done ++ each_choice number left) (drop_all index counts past) ∙ append-nil done
 
 -- and one of a block alone
-pub alone_more : (done : List ℕ) (number : ℕ) (counts : List ℕ) (at d : ℕ) → at < length counts
-    → done ++ alone_choice number at (drop at counts)
+pub single_more : (done : List ℕ) (number : ℕ) (counts : List ℕ) (at d : ℕ) → at < length counts
+    → done ++ single_choice number at (drop at counts)
     ≡ (done ++ (if nat_eq number 1 || nat_eq number (at + 2) then max (get_or counts at d) 1 - 1 else 0) ∷ [])
-    ++ alone_choice number (at + 1) (drop (at + 1) counts)
-alone_more done number counts at d there =
-    ap (λ (left : List ℕ). done ++ alone_choice number at left) (drop_more counts at d there)
+    ++ single_choice number (at + 1) (drop (at + 1) counts)
+single_more done number counts at d there =
+    ap (λ (left : List ℕ). done ++ single_choice number at left) (drop_more counts at d there)
     ∙ sym (append_assoc done
     ((if nat_eq number 1 || nat_eq number (at + 2) then max (get_or counts at d) 1 - 1 else 0) ∷ [])
-    (alone_choice number (at + 1) (drop (at + 1) counts)))
+    (single_choice number (at + 1) (drop (at + 1) counts)))
 
-pub alone_end : (done : List ℕ) (number : ℕ) (counts : List ℕ) (at : ℕ) → length counts ≤ at
-    → done ++ alone_choice number at (drop at counts) ≡ done
-alone_end done number counts at past =
-    ap (λ (left : List ℕ). done ++ alone_choice number at left) (drop_all at counts past) ∙ append-nil done
+pub single_end : (done : List ℕ) (number : ℕ) (counts : List ℕ) (at : ℕ) → length counts ≤ at
+    → done ++ single_choice number at (drop at counts) ≡ done
+single_end done number counts at past =
+    ap (λ (left : List ℕ). done ++ single_choice number at left) (drop_all at counts past) ∙ append-nil done

@@ -24,12 +24,12 @@ each_choice number [] = []
 each_choice number (count ∷ counts) = number % max count 1 ∷ each_choice (number / max count 1) counts
 
 -- The last content of a block from this one on, or the first: 0 is all old, 1 all new, and 2 and on each block alone new.
-abbrev pub alone_choice : ℕ → ℕ → List ℕ → List ℕ
-alone_choice number at [] = []
-alone_choice number at (count ∷ counts) =
-    (if nat_eq number 1 || nat_eq number (at + 2) then max count 1 - 1 else 0) ∷ alone_choice number (at + 1) counts
+abbrev pub single_choice : ℕ → ℕ → List ℕ → List ℕ
+single_choice number at [] = []
+single_choice number at (count ∷ counts) =
+    (if nat_eq number 1 || nat_eq number (at + 2) then max count 1 - 1 else 0) ∷ single_choice number (at + 1) counts
 
 -- the index of the content that each block keeps
 abbrev pub choice_of : ℕ → List ℕ → ℕ → List ℕ
 choice_of most counts number =
-    if nat_lt most (length counts) then alone_choice number 0 counts else each_choice number counts
+    if nat_lt most (length counts) then single_choice number 0 counts else each_choice number counts

@@ -20,13 +20,13 @@ abbrev pub IsMade : Asked → MemDisk → Type 0
 IsMade asked disk = IsImage asked.moment asked.blocks asked.inodes disk
 
 -- a run on such an image took all of these events, and keeps the promise of a run
-pub record IsRunOf (asked : Asked) (disk : MemDisk) (told : Run) : Type 0 where
+pub record IsRunOf (asked : Asked) (disk : MemDisk) (run_record : Run) : Type 0 where
   pub before : MemDisk
   pub made : IsMade asked before
   pub events : List Event
   pub promised : (tree : Tree) (first : ℕ) → IsPromised (Unit {0}) (memory_device before) (memory_device disk) tree
-      first WORKERS events (Ok (report_of told))
-  pub all : length told.steps.items ≡ length events
+      first WORKERS events (Ok (report_of run_record))
+  pub all : length run_record.steps.items ≡ length events
 
 -- an image was opened, its files were told, and they are wanted ones
 pub record HasWanted (files : List (Vec Line Global)) (least most : ℕ) (image : MemDisk) : Type 0 where
@@ -36,5 +36,5 @@ pub record HasWanted (files : List (Vec Line Global)) (least most : ℕ) (image 
   pub found : Vec Line Global
   pub promised : (tree : Tree) (first : ℕ) → IsPromised (Unit {0}) (memory_device image) (memory_device opened) tree
       first 1 [] (Ok report)
-  pub told : HasSeen opened seen (Ok found)
+  pub seen_files : HasSeen opened seen (Ok found)
   pub wanted : AreWanted files least most found.items

@@ -15,22 +15,22 @@ use Rattle.sim_stops.specs.declared.stops.Tried.{Tried}
 
 -- The image that a crash leaves by a choice, behind a run of the script's first events, was opened, and had the files behind
 -- a beginning of the entries that a run of these events has committed, up to the last that it answered as stable at least.
-pub record IsTriedImage (asked : Asked) (files : List (Vec Line Global)) (told : Run) (choice : List ℕ) : Type 0 where
+pub record IsTriedImage (asked : Asked) (files : List (Vec Line Global)) (run_record : Run) (choice : List ℕ) : Type 0 where
   pub disk : MemDisk
   pub again : Run
   pub ran : IsRunOf asked disk again
   pub image : MemDisk
   pub left : blocks_of image ≡ map (λ content. content ∷ []) (chosen choice (blocks_of disk))
-  pub wanted : HasWanted files (promised_of told.history.items told.answers.items) (length told.history.items) image
+  pub wanted : HasWanted files (promised_of run_record.history.items run_record.answers.items) (length run_record.history.items) image
 
 -- so was each image of the choices at a stop, of which there are so many
 pub record IsTriedStop (asked : Asked) (files : List (Vec Line Global)) (images : ℕ) : Type 0 where
   pub disk : MemDisk
-  pub told : Run
-  pub ran : IsRunOf asked disk told
+  pub run_record : Run
+  pub ran : IsRunOf asked disk run_record
   pub images_are : images ≡ choices_of (counts_in (blocks_of disk)) MOST_AT_A_STOP
   pub each : (number : ℕ) → number < images
-      → IsTriedImage asked files told (choice_of MOST_AT_A_STOP (counts_in (blocks_of disk)) number)
+      → IsTriedImage asked files run_record (choice_of MOST_AT_A_STOP (counts_in (blocks_of disk)) number)
 
 -- the sum of these and one more and so on, up to the greatest number of 64 bits
 abbrev pub total_from : ℕ → List ℕ → ℕ

@@ -1,7 +1,7 @@
 //! The choices of what a crash leaves.
 ghost use Rattle.std.specs.Prelude.{◌≡◌, IfOk};
 ghost use Rattle.disk.specs.Memory.{blocks_of};
-ghost use Rattle.sim_stops.specs.CrashChoices.{alone_choice, choice_of, choices_of, counts_in, each_choice, product_from};
+ghost use Rattle.sim_stops.specs.CrashChoices.{single_choice, choice_of, choices_of, counts_in, each_choice, product_from};
 
 use disk::{BlockNo, CrashDisk, MemDisk};
 use std::alloc::{AllocError, Global};
@@ -53,7 +53,7 @@ pub fn choice(
     ensures { IfOk result (λ choice. choice.items ≡ choice_of most counts.now number) }
 {
     if counts.len() > most {
-        return alone_choice(alloc, counts, number);
+        return single_choice(alloc, counts, number);
     }
     each_choice(alloc, counts, number)
 }
@@ -74,9 +74,9 @@ fn each_choice(alloc: Global, counts: &[u32], number: u64) -> Result<Vec<u32>, A
 }
 
 // All old, all new, or a block alone new.
-#[tactic(auto, using(crate::proofs::Counted::alone_more, crate::proofs::Counted::alone_end))]
-fn alone_choice(alloc: Global, counts: &[u32], number: u64) -> Result<Vec<u32>, AllocError>
-    ensures { IfOk result (λ choice. choice.items ≡ alone_choice number 0 counts.now) }
+#[tactic(auto, using(crate::proofs::Counted::single_more, crate::proofs::Counted::single_end))]
+fn single_choice(alloc: Global, counts: &[u32], number: u64) -> Result<Vec<u32>, AllocError>
+    ensures { IfOk result (λ choice. choice.items ≡ single_choice number 0 counts.now) }
 {
     let mut choice = Vec::new(alloc);
     for at in 0..counts.len() {

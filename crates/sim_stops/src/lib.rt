@@ -6,7 +6,7 @@ mod beginnings;
 mod choices;
 mod fault;
 mod left;
-mod opening;
+mod openings;
 mod runs;
 mod script;
 mod stops;

@@ -24,11 +24,11 @@ pub fn run_first(
     events.truncate(count);
     let count = events.len();
     let (disk, ran) = run(alloc, asked.make(alloc)?, WORKERS as usize, events);
-    let told = ran?;
-    if told.steps.len() != count || told.steps.iter().any(has_failed) {
+    let run_record = ran?;
+    if run_record.steps.len() != count || run_record.steps.iter().any(has_failed) {
         return Err(StopsFault::NoMemory);
     }
-    Ok((disk, told))
+    Ok((disk, run_record))
 }
 
 // Whether an event's device call has failed: in memory none does but for want of memory.

@@ -7,7 +7,7 @@ use crate::beginnings::files_behind;
 use crate::choices::{choice, choices, counts_of};
 use crate::fault::StopsFault;
 use crate::left::Left;
-use crate::opening::try_image;
+use crate::openings::try_image;
 use crate::runs::{promised, run_first, stops_in};
 use crate::script::{Asked, script_of};
 use crate::wanted::Wanted;

@@ -19,31 +19,31 @@ cause (Call xid credential call) = SystemError
 
 -- the connection closes
 pub closed : (verdict : Judged) → Judges Closed verdict → message_in verdict ≡ None
-closed Closed told = refl
-closed (Refused xid refusal) told = refl
-closed (Call xid credential call) (inl told) = absurd (cc)
-closed (Call xid credential call) (inr told) = absurd (cc)
+closed Closed proven = refl
+closed (Refused xid refusal) proven = refl
+closed (Call xid credential call) (inl proven) = absurd (cc)
+closed (Call xid credential call) (inr proven) = absurd (cc)
 
 -- it is refused, or memory was
 pub refused : (xid : ℕ) (refusal : Refusal) (verdict : Judged) → Judges (Refused xid refusal) verdict
     → (message_in verdict ≡ None) ⊎ (refusal ≡ SystemError)
 unfolding cause
-refused xid refusal Closed told = inl refl
-refused xid refusal (Refused other why) told = inl refl
-refused xid refusal (Call other credential call) (inl told) = absurd (cc)
-refused xid refusal (Call other credential call) (inr told) = inr (ap cause told)
+refused xid refusal Closed proven = inl refl
+refused xid refusal (Refused other why) proven = inl refl
+refused xid refusal (Call other credential call) (inl proven) = absurd (cc)
+refused xid refusal (Call other credential call) (inr proven) = inr (ap cause proven)
 
 -- it is a call
 pub called : (xid : ℕ) (credential : Credential) (call : ProgramCall) (verdict : Judged)
     → Judges (Call xid credential call) verdict → verdict ≡ Call xid credential call
-called xid credential call Closed told = absurd (cc)
-called xid credential call (Refused other refusal) told = absurd (cc)
-called xid credential call (Call other caller of) (inl told) = sym told
-called xid credential call (Call other caller of) (inr told) = absurd (cc)
+called xid credential call Closed proven = absurd (cc)
+called xid credential call (Refused other refusal) proven = absurd (cc)
+called xid credential call (Call other caller of) (inl proven) = sym proven
+called xid credential call (Call other caller of) (inr proven) = absurd (cc)
 
 -- it is the message that the call is
 pub spelled : (bytes : List ℕ) (xid : ℕ) (credential : Credential) (call : ProgramCall) → length bytes ≤ RECORD_BYTES
     → Judges (Call xid credential call) (judged bytes) → message_of bytes ≡ message_with xid credential call
-spelled bytes xid credential call few told =
+spelled bytes xid credential call few proven =
     ap (λ (t : Bool). if t then None else message_in (judged bytes)) (le-ltb RECORD_BYTES (length bytes) few)
-    ∙ ap message_in (called xid credential call (judged bytes) told)
+    ∙ ap message_in (called xid credential call (judged bytes) proven)

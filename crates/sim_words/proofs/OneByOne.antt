@@ -2,7 +2,7 @@
 use Rattle.std.proofs.Common.{◌≡◌, ℕ, ◌+◌, List, [], ◌∷◌, ◌++◌, Bool, true, false, Option, Some, None, Result, Ok, Err}
 use Rattle.std.proofs.Common.{if◌then◌else◌, refl, ap, sym, ◌∙◌, append_assoc, append-nil}
 use Rattle.sim_words.specs.declared.command.Command.{Command}
-use Rattle.sim_words.specs.declared.place.Place.{Place}
+use Rattle.sim_words.specs.declared.script_cursor.ScriptCursor.{ScriptCursor}
 use Rattle.sim_words.specs.Lines.{numbers_of}
 use Rattle.sim_words.specs.Lines as lines
 use Rattle.sim_words.specs.Numbers.{number_of}
@@ -12,14 +12,14 @@ use Rattle.sim_words.specs.Script.{behind, commands_from, going_on, is_passed_ov
 -- ---- numbers
 
 -- numbers behind numbers
-pub numbers_behind : (front more : List ℕ) (others : Option (List ℕ))
-    → lines.behind front (lines.behind more others) ≡ lines.behind (front ++ more) others
-numbers_behind front more None = refl
-numbers_behind front more (Some others) = ap Some (sym (append_assoc front more others))
+pub numbers_behind : (leading more : List ℕ) (others : Option (List ℕ))
+    → lines.behind leading (lines.behind more others) ≡ lines.behind (leading ++ more) others
+numbers_behind leading more None = refl
+numbers_behind leading more (Some others) = ap Some (sym (append_assoc leading more others))
 
-pub numbers_alone : (others : Option (List ℕ)) → lines.behind [] others ≡ others
-numbers_alone None = refl
-numbers_alone (Some others) = refl
+pub only_numbers : (others : Option (List ℕ)) → lines.behind [] others ≡ others
+only_numbers None = refl
+only_numbers (Some others) = refl
 
 -- the next word is a number
 pub numbers_go : (word : List ℕ) (words : List (List ℕ)) (number : ℕ) → number_of word ≡ Some number
@@ -29,55 +29,55 @@ numbers_go word words number is =
     ap (λ (read : Option ℕ). read >>= λ it. lines.behind (it ∷ []) (numbers_of words)) is
 
 -- or it is none
-pub numbers_stop : (word : List ℕ) (words : List (List ℕ)) → number_of word ≡ None
+pub numbers_fail : (word : List ℕ) (words : List (List ℕ)) → number_of word ≡ None
     → numbers_of (word ∷ words) ≡ None
 unfolding numbers_of
-numbers_stop word words is =
+numbers_fail word words is =
     ap (λ (read : Option ℕ). read >>= λ it. lines.behind (it ∷ []) (numbers_of words)) is
 
-pub numbers_end : (front : List ℕ) → lines.behind front (numbers_of []) ≡ Some front
+pub numbers_end : (leading : List ℕ) → lines.behind leading (numbers_of []) ≡ Some leading
 unfolding numbers_of
-numbers_end front = ap Some (append-nil front)
+numbers_end leading = ap Some (append-nil leading)
 
 -- ---- commands
 
 -- commands behind commands
-pub commands_behind : (front more : List Command) (others : Result (List Command) ℕ)
-    → behind front (behind more others) ≡ behind (front ++ more) others
-commands_behind front more (Err line) = refl
-commands_behind front more (Ok others) = ap Ok (sym (append_assoc front more others))
+pub commands_behind : (leading more : List Command) (others : Result (List Command) ℕ)
+    → behind leading (behind more others) ≡ behind (leading ++ more) others
+commands_behind leading more (Err line) = refl
+commands_behind leading more (Ok others) = ap Ok (sym (append_assoc leading more others))
 
-pub commands_alone : (others : Result (List Command) ℕ) → behind [] others ≡ others
-commands_alone (Err line) = refl
-commands_alone (Ok others) = refl
+pub only_commands : (others : Result (List Command) ℕ) → behind [] others ≡ others
+only_commands (Err line) = refl
+only_commands (Ok others) = refl
 
 -- the next line is passed over
-pub passes : (place : Place) (number : ℕ) (line : List ℕ) (lines : List (List ℕ)) → is_passed_over line ≡ true
-    → commands_from place number (line ∷ lines) ≡ commands_from place (number + 1) lines
+pub passes : (script_cursor : ScriptCursor) (number : ℕ) (line : List ℕ) (lines : List (List ℕ)) → is_passed_over line ≡ true
+    → commands_from script_cursor number (line ∷ lines) ≡ commands_from script_cursor (number + 1) lines
 unfolding commands_from
-passes place number line lines is = ap (λ (t : Bool). if t then commands_from place (number + 1) lines
-    else going_on number (λ next. commands_from next (number + 1) lines) (taken place line)) is
+passes script_cursor number line lines is = ap (λ (t : Bool). if t then commands_from script_cursor (number + 1) lines
+    else going_on number (λ next. commands_from next (number + 1) lines) (taken script_cursor line)) is
 
 -- or it isn't, and is a command that may stand there or none
-looked_at : (place : Place) (number : ℕ) (line : List ℕ) (lines : List (List ℕ)) → is_passed_over line ≡ false
-    → commands_from place number (line ∷ lines)
-    ≡ going_on number (λ next. commands_from next (number + 1) lines) (taken place line)
+line_is_read : (script_cursor : ScriptCursor) (number : ℕ) (line : List ℕ) (lines : List (List ℕ)) → is_passed_over line ≡ false
+    → commands_from script_cursor number (line ∷ lines)
+    ≡ going_on number (λ next. commands_from next (number + 1) lines) (taken script_cursor line)
 unfolding commands_from
-looked_at place number line lines is = ap (λ (t : Bool). if t then commands_from place (number + 1) lines
-    else going_on number (λ next. commands_from next (number + 1) lines) (taken place line)) is
+line_is_read script_cursor number line lines is = ap (λ (t : Bool). if t then commands_from script_cursor (number + 1) lines
+    else going_on number (λ next. commands_from next (number + 1) lines) (taken script_cursor line)) is
 
-pub goes : (place next : Place) (number : ℕ) (line : List ℕ) (lines : List (List ℕ)) (command : Command)
-    → is_passed_over line ≡ false → taken place line ≡ Some (command, next)
-    → commands_from place number (line ∷ lines) ≡ behind (command ∷ []) (commands_from next (number + 1) lines)
-goes place next number line lines command is it = looked_at place number line lines is
+pub goes : (script_cursor next : ScriptCursor) (number : ℕ) (line : List ℕ) (lines : List (List ℕ)) (command : Command)
+    → is_passed_over line ≡ false → taken script_cursor line ≡ Some (command, next)
+    → commands_from script_cursor number (line ∷ lines) ≡ behind (command ∷ []) (commands_from next (number + 1) lines)
+goes script_cursor next number line lines command is it = line_is_read script_cursor number line lines is
     ∙ ap (going_on number (λ next. commands_from next (number + 1) lines)) it
 
-pub stops : (place : Place) (number : ℕ) (line : List ℕ) (lines : List (List ℕ)) → is_passed_over line ≡ false
-    → taken place line ≡ None → commands_from place number (line ∷ lines) ≡ Err number
-stops place number line lines is it = looked_at place number line lines is
+pub stops : (script_cursor : ScriptCursor) (number : ℕ) (line : List ℕ) (lines : List (List ℕ)) → is_passed_over line ≡ false
+    → taken script_cursor line ≡ None → commands_from script_cursor number (line ∷ lines) ≡ Err number
+stops script_cursor number line lines is it = line_is_read script_cursor number line lines is
     ∙ ap (going_on number (λ next. commands_from next (number + 1) lines)) it
 
-pub ends : (front : List Command) (place : Place) (number : ℕ)
-    → behind front (commands_from place number []) ≡ Ok front
+pub ends : (leading : List Command) (script_cursor : ScriptCursor) (number : ℕ)
+    → behind leading (commands_from script_cursor number []) ≡ Ok leading
 unfolding commands_from
-ends front place number = ap Ok (append-nil front)
+ends leading script_cursor number = ap Ok (append-nil leading)

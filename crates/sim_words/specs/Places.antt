@@ -5,12 +5,12 @@ use Rattle.sim_words.specs.declared.command.Action.{Action}
 use Rattle.sim_words.specs.declared.command.Action.TheVariants as act
 use Rattle.sim_words.specs.declared.command.Command.{Command}
 use Rattle.sim_words.specs.declared.command.Command.TheVariants as command
-use Rattle.sim_words.specs.declared.place.Place.{Place}
-use Rattle.sim_words.specs.declared.place.Place.TheVariants.{First, Opened, Running, Stopped, FirstOfStops, OpenForStops}
+use Rattle.sim_words.specs.declared.script_cursor.ScriptCursor.{ScriptCursor}
+use Rattle.sim_words.specs.declared.script_cursor.ScriptCursor.TheVariants.{First, Opened, Running, Stopped, FirstOfStops, OpenForStops}
 use Rattle.sim_words.specs.Reading.{◌>>=◌}
 
 -- the blocks of the image of an open store
-abbrev pub open_blocks : Place → Option ℕ
+abbrev pub open_blocks : ScriptCursor → Option ℕ
 open_blocks First = None
 open_blocks (Opened blocks) = Some blocks
 open_blocks (Running blocks) = Some blocks
@@ -19,7 +19,7 @@ open_blocks FirstOfStops = None
 open_blocks OpenForStops = None
 
 -- the blocks of an image that a crash left
-abbrev pub stopped_blocks : Place → Option ℕ
+abbrev pub stopped_blocks : ScriptCursor → Option ℕ
 stopped_blocks First = None
 stopped_blocks (Opened blocks) = None
 stopped_blocks (Running blocks) = None
@@ -28,7 +28,7 @@ stopped_blocks FirstOfStops = None
 stopped_blocks OpenForStops = None
 
 -- an image is made once
-abbrev pub after_image : Place → ℕ → Option Place
+abbrev pub after_image : ScriptCursor → ℕ → Option ScriptCursor
 after_image First blocks = Some (Opened blocks)
 after_image (Opened had) blocks = None
 after_image (Running had) blocks = None
@@ -46,7 +46,7 @@ fails (act.Event event) = false
 fails (act.Fail call) = true
 
 -- something happens to an open store; no device call fails where each stop is tried
-abbrev pub after_action : Place → Action → Option Place
+abbrev pub after_action : ScriptCursor → Action → Option ScriptCursor
 after_action First action = None
 after_action (Opened blocks) action = Some (Running blocks)
 after_action (Running blocks) action = Some (Running blocks)
@@ -55,7 +55,7 @@ after_action FirstOfStops action = None
 after_action OpenForStops action = if fails action then None else Some OpenForStops
 
 -- files are told only of a store that was just opened
-abbrev pub after_show : Place → Option Place
+abbrev pub after_show : ScriptCursor → Option ScriptCursor
 after_show First = None
 after_show (Opened blocks) = Some (Running blocks)
 after_show (Running blocks) = None
@@ -68,18 +68,18 @@ abbrev pub lies_in_a_block : ℕ → List ℕ → Bool
 lies_in_a_block offset bytes = nat_le (offset + length bytes) BLOCK_BYTES
 
 -- bytes may be changed within a block of the image
-abbrev pub after_poke : Place → ℕ → ℕ → List ℕ → Option Place
-after_poke place block offset bytes = stopped_blocks place
+abbrev pub after_poke : ScriptCursor → ℕ → ℕ → List ℕ → Option ScriptCursor
+after_poke script_cursor block offset bytes = stopped_blocks script_cursor
     >>= λ blocks. if nat_lt block blocks && lies_in_a_block offset bytes then Some (Stopped blocks) else None
 
 -- The place behind a command that may stand at a place. A moment may stand at each, an image is opened again only
 -- where a crash left it, and the store goes on or the device stops only where it is open. Where each stop is tried, the
 -- device stops by itself: there are an image, and what happens to it without a failure.
-abbrev pub after : Place → Command → Option Place
-after place (command.Time moment) = Some place
-after place (command.Image blocks inodes) = after_image place blocks
-after place command.Open = stopped_blocks place >>= λ blocks. Some (Opened blocks)
-after place (command.Act action) = after_action place action
-after place (command.Crash choice) = open_blocks place >>= λ blocks. Some (Stopped blocks)
-after place (command.Poke block offset bytes) = after_poke place block offset bytes
-after place command.Show = after_show place
+abbrev pub after : ScriptCursor → Command → Option ScriptCursor
+after script_cursor (command.Time moment) = Some script_cursor
+after script_cursor (command.Image blocks inodes) = after_image script_cursor blocks
+after script_cursor command.Open = stopped_blocks script_cursor >>= λ blocks. Some (Opened blocks)
+after script_cursor (command.Act action) = after_action script_cursor action
+after script_cursor (command.Crash choice) = open_blocks script_cursor >>= λ blocks. Some (Stopped blocks)
+after script_cursor (command.Poke block offset bytes) = after_poke script_cursor block offset bytes
+after script_cursor command.Show = after_show script_cursor

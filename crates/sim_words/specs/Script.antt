@@ -4,8 +4,8 @@ use Rattle.std.specs.Prelude.{◌==◌, if◌then◌else◌, length}
 use Rattle.sim_words.specs.declared.command.Command.{Command}
 use Rattle.sim_words.specs.declared.fault.ScriptFault.{ScriptFault}
 use Rattle.sim_words.specs.declared.fault.ScriptFault.TheVariants.{Line, NoMemory}
-use Rattle.sim_words.specs.declared.place.Place.{Place}
-use Rattle.sim_words.specs.declared.place.Place.TheVariants.{First, FirstOfStops}
+use Rattle.sim_words.specs.declared.script_cursor.ScriptCursor.{ScriptCursor}
+use Rattle.sim_words.specs.declared.script_cursor.ScriptCursor.TheVariants.{First, FirstOfStops}
 use Rattle.sim_words.specs.Lines.{command_of}
 use Rattle.sim_words.specs.Places.{after}
 use Rattle.sim_words.specs.Reading.{◌>>=◌}
@@ -16,10 +16,10 @@ abbrev pub is_passed_over : List ℕ → Bool
 is_passed_over line = is_comment line || (length (words_of line) == 0)
 
 -- the command of a line that stands at a place, and the place behind it
-abbrev pub taken : Place → List ℕ → Option (Command × Place)
-taken place line = do
+abbrev pub taken : ScriptCursor → List ℕ → Option (Command × ScriptCursor)
+taken script_cursor line = do
   command ← command_of (words_of line)
-  next ← after place command
+  next ← after script_cursor command
   Some (command, next)
 
 -- commands before others
@@ -28,17 +28,17 @@ behind commands (Ok others) = Ok (commands ++ others)
 behind commands (Err line) = Err line
 
 -- the commands of a line that is none, and of one that is one, before those of the others
-abbrev pub going_on : ℕ → (Place → Result (List Command) ℕ) → Option (Command × Place) → Result (List Command) ℕ
+abbrev pub going_on : ℕ → (ScriptCursor → Result (List Command) ℕ) → Option (Command × ScriptCursor) → Result (List Command) ℕ
 going_on number others None = Err number
 going_on number others (Some it) = behind (it.0 ∷ []) (others it.1)
 
 -- The commands of lines, the first of which stands at a place and has this number, or the number of the first bad
 -- line.
-unfoldable pub commands_from : Place → ℕ → List (List ℕ) → Result (List Command) ℕ
-commands_from place number [] = Ok []
-commands_from place number (line ∷ lines) =
-    if is_passed_over line then commands_from place (number + 1) lines
-    else going_on number (λ next. commands_from next (number + 1) lines) (taken place line)
+unfoldable pub commands_from : ScriptCursor → ℕ → List (List ℕ) → Result (List Command) ℕ
+commands_from script_cursor number [] = Ok []
+commands_from script_cursor number (line ∷ lines) =
+    if is_passed_over line then commands_from script_cursor (number + 1) lines
+    else going_on number (λ next. commands_from next (number + 1) lines) (taken script_cursor line)
 
 -- the commands of a script, or the number of its first bad line, the first line being line 1
 abbrev pub script_of : List ℕ → Result (List Command) ℕ
@@ -50,9 +50,9 @@ stops_of text = commands_from FirstOfStops 1 (lines_of text)
 
 -- why a script isn't read whose first line stands at a place: its first bad line, or that memory was refused, of which
 -- nothing is said
-abbrev pub IsUnreadFrom : Place → List ℕ → ScriptFault → Type 0
-IsUnreadFrom place text (Line number) = commands_from place 1 (lines_of text) ≡ Err number
-IsUnreadFrom place text NoMemory = Unit {0}
+abbrev pub IsUnreadFrom : ScriptCursor → List ℕ → ScriptFault → Type 0
+IsUnreadFrom script_cursor text (Line number) = commands_from script_cursor 1 (lines_of text) ≡ Err number
+IsUnreadFrom script_cursor text NoMemory = Unit {0}
 
 -- so it is of one whose first line stands where no image was made yet
 abbrev pub IsUnread : List ℕ → ScriptFault → Type 0

@@ -3,9 +3,9 @@ use Rattle.std.specs.Prelude.{ℕ, ◌==◌, Bool, not, List, [], ◌∷◌, Opt
 use Rattle.std.specs.Prelude.{filter, length, slice_index}
 
 -- what stands before the first of these bytes
-unfoldable pub front : ℕ → List ℕ → List ℕ
-front byte [] = []
-front byte (b ∷ bytes) = if b == byte then [] else b ∷ front byte bytes
+unfoldable pub leading : ℕ → List ℕ → List ℕ
+leading byte [] = []
+leading byte (b ∷ bytes) = if b == byte then [] else b ∷ leading byte bytes
 
 -- what is behind it, if there is one
 unfoldable pub behind : ℕ → List ℕ → Option (List ℕ)

@@ -7,8 +7,8 @@ mod line;
 mod message;
 mod numbers;
 mod parts;
-mod place;
 mod script;
+mod script_cursor;
 mod words;
 
 pub use command::{Action, Choice, Command, OneEvent, WORKERS};

@@ -196,7 +196,7 @@ fn choice(alloc: Global, words: &mut Words) -> Result<Choice, LineFault>
 }
 
 // Numbers up to the end of the line, of which this word is the first.
-#[tactic(auto, using(crate::proofs::OneByOne::numbers_behind, crate::proofs::OneByOne::numbers_go, crate::proofs::OneByOne::numbers_stop, crate::proofs::OneByOne::numbers_end))]
+#[tactic(auto, using(crate::proofs::OneByOne::numbers_behind, crate::proofs::OneByOne::numbers_go, crate::proofs::OneByOne::numbers_fail, crate::proofs::OneByOne::numbers_end))]
 fn digits(alloc: Global, first: &[u8], words: &mut Words) -> Result<Vec<u32>, LineFault>
     ensures { Gives (λ digits. (digits.items, words.new)) result (meaning.digits_at first.now words.old) }
 {

@@ -1,6 +1,6 @@
 //! What stands between the bytes that part a text.
 ghost use Rattle.std.specs.Prelude.{◌≡◌, ◌≤◌, MatchOption, [], ◌∷◌, length, option_map};
-ghost use Rattle.sim_words.specs.Texts.{behind, front, parts};
+ghost use Rattle.sim_words.specs.Texts.{behind, leading, parts};
 
 use std::marker::Model;
 
@@ -44,12 +44,12 @@ impl<'a> Parts<'a> {
 }
 
 // What stands before the first of these bytes, and what is behind it, if there is one.
-#[tactic(auto, using(crate::proofs::Cut::front_is, crate::proofs::Cut::behind_is))]
+#[tactic(auto, using(crate::proofs::Cut::leading_is, crate::proofs::Cut::behind_is))]
 fn cut(text: &[u8], byte: u8) -> (&[u8], Option<&[u8]>)
-    ensures front { result.0.now ≡ front byte text.now }
+    ensures leading { result.0.now ≡ leading byte text.now }
     ensures behind { option_map (λ rest. rest.now) result.1 ≡ behind byte text.now }
 {
-    let length = front_length(text, byte);
+    let length = leading_length(text, byte);
     if length < text.len() {
         (&text[..length], Some(&text[length + 1..]))
     } else {
@@ -59,8 +59,8 @@ fn cut(text: &[u8], byte: u8) -> (&[u8], Option<&[u8]>)
 
 // How many bytes stand before the first of these.
 #[tactic(auto, using(crate::proofs::Cut::met, crate::proofs::Cut::passed))]
-fn front_length(text: &[u8], byte: u8) -> usize
-    ensures is { result ≡ length (front byte text.now) }
+fn leading_length(text: &[u8], byte: u8) -> usize
+    ensures is { result ≡ length (leading byte text.now) }
     ensures within { result ≤ length text.now }
 {
     'bytes: for index in 0..text.len() {

@@ -15,8 +15,8 @@ use Rattle.txn.specs.Fetch.{Fetch}
 use Rattle.txn_law.specs.Holds.{for_fetching, hold_of, is_hold_of, is_taken, joined}
 use Rattle.txn_law.specs.Leaves.{Leaves, in_memory, is_fetching, taken_by, with_content}
 use Rattle.txn_law.specs.Leaves.{without_fetch}
-use Rattle.txn_law.specs.Records.{is_kept}
-use Rattle.txn_law.specs.Wishes.{IsFetched}
+use Rattle.txn_law.specs.Records.{is_read_by_uninstalled}
+use Rattle.txn_law.specs.LockAnswers.{IsFetched}
 use Rattle.txn_law.specs.declared.hold.Hold.{Hold}
 use Rattle.txn_law.proofs.TakenBy.{is_hold_by}
 use Rattle.store.specs.Driving.{away, count_away, is_at_hand}
@@ -155,8 +155,8 @@ module _ (old mid new : CoreState) (tx : ℕ) (addr : Addr) (mode : Mode) (asked
       (is_hold_by tx addr hold refl refl refl refl))
 
   needed : (block : BlockNo) → is_taken new.holds block ≡ true
-      → (is_taken new.holds block || is_kept new.records block) ≡ true
-  needed block taken = ap (λ b. b || is_kept new.records block) taken
+      → (is_taken new.holds block || is_read_by_uninstalled new.records block) ≡ true
+  needed block taken = ap (λ b. b || is_read_by_uninstalled new.records block) taken
 
   pending : is_fetching mid io.block ≡ true
   pending = fetched.leaves.fetches io.block
@@ -177,7 +177,7 @@ module _ (old mid new : CoreState) (tx : ℕ) (addr : Addr) (mode : Mode) (asked
     where
       in_mid : is_some (in_memory mid block) ≡ true
       in_mid = ap (λ (o : Option Content). is_some o) (fetched.leaves.stays block content there
-          (ap (λ b. b || is_kept mid.records block) (taken_mid)))
+          (ap (λ b. b || is_read_by_uninstalled mid.records block) (taken_mid)))
         where
           taken_mid : is_taken mid.holds block ≡ true
           taken_mid =

@@ -7,7 +7,7 @@ use Rattle.std.proofs.Common.{◌++◌, option_to_list}
 use Rattle.std.specs.Prelude.{IsSomeAnd}
 use Rattle.std.proofs.lemmas.List.{append-nil}
 use Rattle.std.proofs.lemmas.List.Elements.{All-nil}
-use Rattle.base.specs.declared.TheConstants.{MOST_KEPT_COMMITS}
+use Rattle.base.specs.declared.TheConstants.{MOST_UNINSTALLED_COMMITS}
 use Rattle.disk.specs.Blocks.{AreBlocks}
 use Rattle.disk.specs.Crash.{Image, IsCrashImage}
 use Rattle.disk.specs.Device.{Content, CountsFailure, Device, OneLater}
@@ -21,7 +21,7 @@ use Rattle.txn_law.specs.Fetch.{Fetch}
 use Rattle.circ.specs.Log.Calls.{Pending, idle as nothing_out}
 use Rattle.circ.specs.Log.Log.{settled_place}
 use Rattle.procs.specs.SoundCalls.{SoundCall}
-use Rattle.store_promise.specs.OpenSince.{HasKeptFiles, IsOpenSince, KeepsFiles, LeavesBeginning}
+use Rattle.store_promise.specs.OpenSince.{HasPreservedFiles, IsOpenSince, PreservesFiles, LeavesBeginning}
 use Rattle.store_promise.specs.Progress.{Begun, Progress, Stage, At, Idle, Called, Planning, Reading, Read}
 use Rattle.store_promise.specs.Progress.{Refused, Again}
 use Rattle.store_promise.specs.Progress.{Waiting, is_idle, progressed}
@@ -33,18 +33,18 @@ use Rattle.store_promise.specs.declared.events.Step.{Step}
 use Rattle.store_promise.specs.declared.events.Step.TheVariants as step
 use Rattle.store.specs.Runs.AtWork.{IsCoreAtWork, fetches_in, fetches_of}
 use Rattle.store.specs.Calling.{IsBegunFor, GoesTo, HasAnswered, HasStepped, HasWaited, IsCalling, IsOpenAt, IsOpenWith}
-use Rattle.store.specs.Calling.{IsAfter, IsSoFar}
+use Rattle.store.specs.Calling.{IsAfter, IsAtStage}
 use Rattle.store.specs.Calling.{LeavesFiles, Outset, StandsWith, Tells}
 use Rattle.store_images.specs.Further.{LeavesOpen, RunsOn}
 use Rattle.store_images.specs.Opening.{Opened, store_of}
 use Rattle.store_images.specs.Settling.{IsIdle}
-use Rattle.store_images.specs.SettlingStops.{KeepsPrefixes, StaysOpen}
+use Rattle.store_images.specs.SettlingStops.{PreservesPrefixes, StaysOpen}
 use Rattle.store_workers.specs.Phases.{is_ready}
 use Rattle.store_workers.specs.Seen.{seen_in}
 use Rattle.store_workers.specs.Knowing.{nothing_known}
 use Rattle.store_workers.specs.Stages.{IsJobIn, IsJobOf, IsWorkerAt, StandsAt, at_stage, begun_of}
 use Rattle.store_workers.specs.Stages.{progress_in, progress_of}
-use Rattle.store_workers.specs.Telling.{told}
+use Rattle.store_workers.specs.RunReports.{reported}
 use Rattle.store_workers.specs.WorkTells.{TellsRead}
 use Rattle.store_workers.specs.Worker.{Fits, GoesWith, IsCoreOf, ReadsWithin, at_rest, ctx_of, with_call}
 use Rattle.store_workers.specs.WorkerReads.{with_read}
@@ -54,14 +54,14 @@ use Rattle.store_workers.specs.declared.workers.parts.Phase as phases
 use Rattle.store_workers.specs.declared.workers.parts.Phase.TheVariants as Phase
 use Rattle.store_workers.specs.declared.workers.parts.State.{State}
 use Rattle.store_workers.specs.declared.workers.parts.Work.{Work}
-use Rattle.store.proofs.CallStages.{begun_then, broken_after, comes_then, so_far_still, tells_still}
+use Rattle.store.proofs.CallStages.{begun_then, broken_after, comes_then, stage_still, tells_still}
 use Rattle.store.proofs.CallSteps.{open_of, runs_of, setting_of}
-use Rattle.store.proofs.DrivenAlone.{starts_alone}
+use Rattle.store.proofs.DrivenSingle.{starts_single}
 use Rattle.store.proofs.RunsLemmas.GoingOn.{still_at_work}
 use Rattle.store_workers.proofs.HowFar.{some_of}
 use Rattle.store_promise.proofs.Later.{past_more, past_none, past_one}
 use Rattle.store_images.proofs.Later.{some_image}
-use Rattle.store_images.proofs.Staying.{kept_along, none_left, stops_along}
+use Rattle.store_images.proofs.Staying.{preserved_along, none_left, stops_along}
 use Rattle.store_images.proofs.Lost.{broken_along}
 use Rattle.store_images.proofs.StillOpen.{further_then, same_further}
 
@@ -81,7 +81,7 @@ begins o worker sound idle is with opened = record {
   boot = refl;
   comes = refl;
   past = past_none o.store.device;
-  kept = none_left o.store.device o.store.boot o.first (o.entries ++ []) (settled_place o.store.core.log);
+  is_preserved = none_left o.store.device o.store.boot o.first (o.entries ++ []) (settled_place o.store.core.log);
   opened = subst (λ (w : State). IsOpenAt opened.base o.store (fetches_of w) o.first (o.entries ++ [])
       o.last) (sym is)
       (subst (λ (es : List Entry). IsOpenAt opened.base o.store [] o.first es o.last)
@@ -93,11 +93,11 @@ begins o worker sound idle is with opened = record {
   });
   at_work = subst (λ (w : State). IsCoreAtWork w o.store.core) (sym is) (record {
     with = subst (λ (w : State). GoesWith w o.store.core) is with;
-    alone = starts_alone (handed_to o) o.store.core (ctx_of o.asked.credential o.asked.moment) o.asked.call refl idle.out idle.fetches;
+    single_worker = starts_single (handed_to o) o.store.core (ctx_of o.asked.credential o.asked.moment) o.asked.call refl idle.out idle.fetches;
     loads = tt;
-    notes = tt;
+    traces = tt;
   });
-  so_far = subst (λ (w : State). IsSoFar o None o.store (progress_of w)) (sym is)
+  so_far = subst (λ (w : State). IsAtStage o None o.store (progress_of w)) (sym is)
       (refl, (refl, λ unserved. refl));
   counted = omega arith;
   further = same_further o.store.core;
@@ -120,12 +120,12 @@ none_made : (made : Step) → Some made ≡ None → ⊥
 none_made made same = cc
 
 -- a call of the device leaves what each stop before it left
-abbrev pub KeepsByCall : Type 0
-KeepsByCall = (before old new : Device) (base : Image) (core : CoreState) (logging installing : Pending)
+abbrev pub PreservesByCall : Type 0
+PreservesByCall = (before old new : Device) (base : Image) (core : CoreState) (logging installing : Pending)
     (boot settled : ℕ) (first last : Tree) (entries : List Entry)
-    → HasKeptFiles before old boot first entries settled
+    → HasPreservedFiles before old boot first entries settled
     → IsOpenSince base old core logging installing boot first entries last → settled ≤ settled_place core.log
-    → OneLater old new → HasKeptFiles before new boot first entries settled
+    → OneLater old new → HasPreservedFiles before new boot first entries settled
 
 module _ (o : Outset) (now : Opened) (device : Device) (worker : State)
     (calling : IsCalling o now worker) (io : Fetch) (content : Content) (answer : Result Unit Failed)
@@ -146,12 +146,12 @@ module _ (o : Outset) (now : Opened) (device : Device) (worker : State)
     further = same_further now.core;
   }
 
-  so_far_by : (broken : Bool) (p : Progress) → IsStepOfRead p (Some made) → IsSoFar o calling.entry now p
-      → IsSoFar o calling.entry later (progressed broken made p)
-  so_far_by broken Idle may has = tt
-  so_far_by broken (At job (Called known)) may has = absurd (none_made made may)
-  so_far_by broken (At job (Planning begun)) may has = absurd (none_made made may)
-  so_far_by broken (At job (Reading begun taken)) may has = (has.0, by (is_ok answer) refl)
+  stage_by : (broken : Bool) (p : Progress) → IsStepOfRead p (Some made) → IsAtStage o calling.entry now p
+      → IsAtStage o calling.entry later (progressed broken made p)
+  stage_by broken Idle may has = tt
+  stage_by broken (At job (Called known)) may has = absurd (none_made made may)
+  stage_by broken (At job (Planning begun)) may has = absurd (none_made made may)
+  stage_by broken (At job (Reading begun taken)) may has = (has.0, by (is_ok answer) refl)
     where
       by : (ok : Bool) → is_ok answer ≡ ok → StandsWith o calling.entry later (Read begun taken ok)
       by true is = (has.1.0, begun_then o now later after begun.number has.1.1)
@@ -159,22 +159,22 @@ module _ (o : Outset) (now : Opened) (device : Device) (worker : State)
           let was = calling.counted in
           let more = was_counted now.device device answer failure is in
           (has.1.0, begun_then o now later after begun.number has.1.1, omega (arith, was, more))
-  so_far_by broken (At job (Read begun taken ok)) may has = absurd (none_made made may)
-  so_far_by broken (At job (Refused begun why)) may has = absurd (none_made made may)
-  so_far_by broken (At job (Again begun wished)) may has = absurd (none_made made may)
-  so_far_by broken (At job (Waiting place)) may has = absurd (none_made made may)
+  stage_by broken (At job (Read begun taken ok)) may has = absurd (none_made made may)
+  stage_by broken (At job (Refused begun why)) may has = absurd (none_made made may)
+  stage_by broken (At job (Again begun request)) may has = absurd (none_made made may)
+  stage_by broken (At job (Waiting place)) may has = absurd (none_made made may)
 
-  kept_then : KeepsByCall → HasKeptFiles o.store.device device o.store.boot o.first
+  preserved_then : PreservesByCall → HasPreservedFiles o.store.device device o.store.boot o.first
       (o.entries ++ option_to_list calling.entry) (settled_place o.store.core.log)
-  kept_then keeps = keeps o.store.device now.device device calling.base now.core nothing_out
+  preserved_then preserves = preserves o.store.device now.device device calling.base now.core nothing_out
       nothing_out o.store.boot
       (settled_place o.store.core.log) o.first calling.last
-      (o.entries ++ option_to_list calling.entry) calling.kept
+      (o.entries ++ option_to_list calling.entry) calling.is_preserved
       (subst (λ (boot : ℕ). IsOpenSince calling.base now.device now.core nothing_out nothing_out boot o.first
       (o.entries ++ option_to_list calling.entry) calling.last) calling.boot calling.opened.since)
       calling.further.settled one
 
-  pub was_read : KeepsByCall
+  pub was_read : PreservesByCall
       → TellsRead o.store.boot (o.entries ++ option_to_list calling.entry) worker (Some made) read
       → IsCoreAtWork read now.core
       → IsRunningOver (setting_of calling.base now (fetches_of worker) o.first
@@ -182,20 +182,20 @@ module _ (o : Outset) (now : Opened) (device : Device) (worker : State)
       (quiet device now.core)
       (fetches_of read) now.boot o.first (o.entries ++ option_to_list calling.entry) calling.last
       → IsCalling o later read
-  was_read keeps tells at_work run = record {
+  was_read preserves tells at_work run = record {
     entry = calling.entry;
     last = calling.last;
     base = calling.base;
     boot = calling.boot;
     comes = comes_then o now later after calling.entry calling.last calling.comes;
     past = past_more o.store.device now.device device calling.past (past_one now.device device one);
-    kept = kept_then keeps;
+    is_preserved = preserved_then preserves;
     opened = open_of _ calling.base later (fetches_of read) o.first (o.entries ++ option_to_list calling.entry)
         calling.last run;
     stands = tells.stands;
     at_work = at_work;
-    so_far = subst (IsSoFar o calling.entry later) (sym (tells.progress now.core.log.broken))
-        (so_far_by now.core.log.broken (progress_of worker) tells.may calling.so_far);
+    so_far = subst (IsAtStage o calling.entry later) (sym (tells.progress now.core.log.broken))
+        (stage_by now.core.log.broken (progress_of worker) tells.may calling.so_far);
     counted = let was = calling.counted in let more = after.failures in omega (arith, was, more);
     further = calling.further;
     broken = λ is. broken_after o now later after (calling.broken is);
@@ -240,11 +240,11 @@ module _ (o : Outset) (now : Opened) (device : Device) (core : CoreState) (worke
       stays : StaysOpen now.device now.core device core now.boot o.first entries calling.last
       stays = waited.stays calling.base now.boot o.first calling.last entries calling.opened.since
 
-      kept_on : HasKeptFiles o.store.device device o.store.boot o.first entries (settled_place o.store.core.log)
-      kept_on = kept_along o.store.device now.device device o.store.boot (settled_place o.store.core.log)
+      preserved_on : HasPreservedFiles o.store.device device o.store.boot o.first entries (settled_place o.store.core.log)
+      preserved_on = preserved_along o.store.device now.device device o.store.boot (settled_place o.store.core.log)
           (settled_place now.core.log) o.first entries calling.past stays.past
-          calling.further.settled calling.kept
-          (subst (λ (boot : ℕ). HasKeptFiles now.device device boot o.first entries
+          calling.further.settled calling.is_preserved
+          (subst (λ (boot : ℕ). HasPreservedFiles now.device device boot o.first entries
           (settled_place now.core.log)) calling.boot stays.left)
 
       abbrev settles_on : IsCalling o settled worker
@@ -255,12 +255,12 @@ module _ (o : Outset) (now : Opened) (device : Device) (core : CoreState) (worke
         boot = calling.boot;
         comes = comes_then o now settled still_after calling.entry calling.last calling.comes;
         past = past_more o.store.device now.device device calling.past stays.past;
-        kept = kept_on;
+        is_preserved = preserved_on;
         opened = open_of _ next.home settled (fetches_of worker) o.first entries calling.last next.running;
         stands = calling.stands;
         at_work = still_at_work now.core core opens.core (sym next.running.blocks ∙ run.blocks) worker with
             calling.at_work;
-        so_far = so_far_still o now settled still_after same_unserved calling.entry (progress_of worker)
+        so_far = stage_still o now settled still_after same_unserved calling.entry (progress_of worker)
             calling.so_far;
         counted = let was = calling.counted in let more = opens.failures in omega (arith, was, more);
         further = further_then o.store.core now.core core calling.further opens.further;
@@ -280,14 +280,14 @@ pub settled_step : (o : Outset) (now : Opened) (device : Device) (core : CoreSta
     (waits : Bool)
     (served : waits ≡ true → begins_transaction o.asked.call ≡ true)
     (waited : HasWaited waits now.device now.core device core)
-    → HasStepped o now worker → GoesWith (told worker) core
+    → HasStepped o now worker → GoesWith (reported worker) core
     → HasStepped o (store_of device core now.boot) worker
 settled_step o now device core worker waits served waited stepped with = record {
-  calling = settles_on o now device core (told worker) waits served waited stepped.calling with;
+  calling = settles_on o now device core (reported worker) waits served waited stepped.calling with;
   ends = stepped.ends;
   answer = answer_still o now (store_of device core now.boot)
-      (still_after o now device core (told worker) waits served waited) waited.opens.core.begun
-      (same_unserved o now device core (told worker) waits served waited) stepped.calling.entry
+      (still_after o now device core (reported worker) waits served waited) waited.opens.core.begun
+      (same_unserved o now device core (reported worker) waits served waited) stepped.calling.entry
       worker.work.answer stepped.answer;
 }
 
@@ -320,31 +320,31 @@ settled_open now device core first entries last opens opened =
 files_then : (o : Outset) (entries : List Entry) (last : Tree) (now : Opened) (device : Device)
     (core : CoreState)
     → AreBlocks device → now.boot ≡ o.store.boot → settled_place o.store.core.log ≤ settled_place now.core.log
-    → KeepsPrefixes now.device now.core device core → IsOpenWith now o.first entries last
+    → PreservesPrefixes now.device now.core device core → IsOpenWith now o.first entries last
     → LeavesFiles o entries now
     → LeavesFiles o entries (store_of device core now.boot)
-files_then o entries last now device core blocks boot further keeps opened files =
-    let kept = keeps opened.base now.boot o.first last entries opened.opened.since in
-    let past = past_more o.store.device now.device device files.past kept.past in
+files_then o entries last now device core blocks boot further preserves opened files =
+    let is_preserved = preserves opened.base now.boot o.first last entries opened.opened.since in
+    let past = past_more o.store.device now.device device files.past is_preserved.past in
     record {
       past = past;
       left = some_image o.store.device device blocks;
       stops = stops_along o.store.device now.device device o.store.boot (settled_place o.store.core.log)
-          (settled_place now.core.log) o.first entries kept.past further
+          (settled_place now.core.log) o.first entries is_preserved.past further
           (λ clock image above below crash. files.stops clock image above (omega (arith, below)) crash)
-          (subst (λ (b : ℕ). KeepsFiles now.device device b o.first entries (settled_place now.core.log)) boot
-          kept.stops);
+          (subst (λ (b : ℕ). PreservesFiles now.device device b o.first entries (settled_place now.core.log)) boot
+          is_preserved.stops);
       ended = λ image crash.
           subst (λ (b : ℕ). LeavesBeginning device.size b o.first entries (settled_place core.log) image) boot
-          (kept.ended image crash);
+          (is_preserved.ended image crash);
     }
 
 -- The store once a call was answered: where it kept too many commits, it is settled.
 pub settled_answer : (o : Outset) (verdict : Verdict) (now : Opened) (device : Device) (core : CoreState)
-    (opens : LeavesOpen now.device now.core device core) → KeepsPrefixes now.device now.core device core
-    → AreBlocks device → MOST_KEPT_COMMITS < length now.core.records → HasAnswered o verdict now
+    (opens : LeavesOpen now.device now.core device core) → PreservesPrefixes now.device now.core device core
+    → AreBlocks device → MOST_UNINSTALLED_COMMITS < length now.core.records → HasAnswered o verdict now
     → HasAnswered o verdict (store_of device core now.boot)
-settled_answer o verdict now device core opens keeps blocks many has = record {
+settled_answer o verdict now device core opens preserves blocks many has = record {
   entry = has.entry;
   last = has.last;
   boot = has.boot;
@@ -352,7 +352,7 @@ settled_answer o verdict now device core opens keeps blocks many has = record {
       (record { past = opens.past; failures = opens.failures; further = opens.further }) has.entry has.last
       has.comes;
   files = files_then o (o.entries ++ option_to_list has.entry) has.last now device core blocks has.boot
-      has.goes.further.settled keeps has.opened has.files;
+      has.goes.further.settled preserves has.opened has.files;
   opened = settled_open now device core o.first (o.entries ++ option_to_list has.entry) has.last
       opens has.opened;
   goes = gone_on o.store now (store_of device core now.boot) has.goes
@@ -369,11 +369,11 @@ settled_answer o verdict now device core opens keeps blocks many has = record {
 
 -- ---- it begins again
 
-so_far_again : (o : Outset) (now : Opened) (entry : Option Entry) (job : Option WorkJob) (begun other : Begun)
-    → begun.number ≡ other.number → IsSoFar o entry now (at_stage job (Planning begun))
-    → IsSoFar o entry now (at_stage job (Again other None))
-so_far_again o now entry None begun other same has = tt
-so_far_again o now entry (Some job) begun other same has =
+stage_again : (o : Outset) (now : Opened) (entry : Option Entry) (job : Option WorkJob) (begun other : Begun)
+    → begun.number ≡ other.number → IsAtStage o entry now (at_stage job (Planning begun))
+    → IsAtStage o entry now (at_stage job (Again other None))
+stage_again o now entry None begun other same has = tt
+stage_again o now entry (Some job) begun other same has =
     (has.0, (has.1.0, subst (IsBegunFor o now) same has.1.1))
 
 ends_again : (job : Option WorkJob) (begun other : Begun) → is_idle (at_stage job (Planning begun)) ≡ true
@@ -386,7 +386,7 @@ abbrev pub again : State → State
 again worker = record worker { phase = Phase.Again; known = nothing_known }
 
 pub again_goes : (o : Outset) (now : Opened) (worker : State) → HasStepped o now worker
-    → worker.phase ≡ Phase.Planning → GoesWith (told (again worker)) now.core → HasStepped o now (again worker)
+    → worker.phase ≡ Phase.Planning → GoesWith (reported (again worker)) now.core → HasStepped o now (again worker)
 again_goes o now worker stepped planning with =
     let was = stepped.calling in
     let entries = o.entries ++ option_to_list was.entry in
@@ -398,30 +398,30 @@ again_goes o now worker stepped planning with =
         boot = was.boot;
         comes = was.comes;
         past = was.past;
-        kept = was.kept;
+        is_preserved = was.is_preserved;
         opened = subst (λ fetches. IsOpenAt was.base now fetches o.first entries was.last)
             (ap (λ (p : phases.Phase). fetches_in p worker.begun.io) planning) was.opened;
         stands = record {
           entry = was.stands.entry;
           answer = was.stands.answer;
-          stands = subst (λ (p : phases.Phase). StandsAt o.store.boot entries p (told worker)) planning
+          stands = subst (λ (p : phases.Phase). StandsAt o.store.boot entries p (reported worker)) planning
               was.stands.stands;
         };
         at_work = record {
           with = with;
-          alone = record {
-            out = was.at_work.alone.out;
-            fetches = was.at_work.alone.fetches;
+          single_worker = record {
+            out = was.at_work.single_worker.out;
+            fetches = was.at_work.single_worker.fetches;
             left = refl;
             plans = tt;
           };
           loads = tt;
-          notes = tt;
+          traces = tt;
         };
-        so_far = so_far_again o now was.entry worker.work.job
+        so_far = stage_again o now was.entry worker.work.job
             (begun_of worker.begun.tx (seen_in worker.work.planner) worker.known)
             (begun_of worker.begun.tx (seen_in worker.work.planner) nothing_known) refl
-            (subst (λ (p : phases.Phase). IsSoFar o was.entry now (progress_in p worker.work.job
+            (subst (λ (p : phases.Phase). IsAtStage o was.entry now (progress_in p worker.work.job
             (begun_of worker.begun.tx (seen_in worker.work.planner) worker.known) worker.asked worker.known)) planning
             was.so_far);
         counted = was.counted;
@@ -439,30 +439,30 @@ again_goes o now worker stepped planning with =
 
 -- ---- what a worker goes with, once what it gave was taken
 
-ready_told : (phase : phases.Phase) (work : Work)
+ready_once_reported : (phase : phases.Phase) (work : Work)
     → is_ready phase (record work { entry = None; answer = None }) ≡ is_ready phase work
-ready_told Phase.Idle work = refl
-ready_told Phase.Called work = refl
-ready_told Phase.Planning work = refl
-ready_told Phase.Reading work = refl
-ready_told (Phase.Read ok) work = refl
-ready_told (Phase.Refused why) work = refl
-ready_told Phase.Again work = refl
-ready_told (Phase.Waiting place) work = refl
+ready_once_reported Phase.Idle work = refl
+ready_once_reported Phase.Called work = refl
+ready_once_reported Phase.Planning work = refl
+ready_once_reported Phase.Reading work = refl
+ready_once_reported (Phase.Read ok) work = refl
+ready_once_reported (Phase.Refused why) work = refl
+ready_once_reported Phase.Again work = refl
+ready_once_reported (Phase.Waiting place) work = refl
 
-pub goes_told : (worker : Worker) (core : CoreState) → Fits worker core → GoesWith (told worker.state) core
-goes_told worker core fits = record {
+pub goes_once_reported : (worker : Worker) (core : CoreState) → Fits worker core → GoesWith (reported worker.state) core
+goes_once_reported worker core fits = record {
   sound = record {
     transaction = worker.transaction;
     fetch = worker.fetch;
-    ready = ready_told worker.state.phase worker.state.work ∙ worker.ready;
+    ready = ready_once_reported worker.state.phase worker.state.work ∙ worker.ready;
   };
   core_of = record { out = fits.out; reads = fits.reads; lawful = fits.lawful };
 }
 
 -- a worker of which nothing lies ready has nothing to tell
 pub none_to_tell : (worker : State) → worker.work.entry ≡ None → worker.work.answer ≡ None
-    → told worker ≡ worker
+    → reported worker ≡ worker
 none_to_tell worker entry answer = λ i.
     record worker { work = record worker.work { entry = sym entry i; answer = sym answer i } }
 
@@ -514,12 +514,12 @@ idle_by boot done state (Phase.Waiting place) stands idle =
     absurd (no_stage state.asked.waiting stands.job _ stands.job_is idle)
 
 -- each stop leaves a beginning, by the laws on a store that is open
-abbrev pub KeepsNow : Type 0
-KeepsNow = (before d : Device) (base : Image) (core : CoreState) (logging installing : Pending)
+abbrev pub PreservesNow : Type 0
+PreservesNow = (before d : Device) (base : Image) (core : CoreState) (logging installing : Pending)
     (boot settled : ℕ) (first last : Tree) (entries : List Entry)
-    → HasKeptFiles before d boot first entries settled
+    → HasPreservedFiles before d boot first entries settled
     → IsOpenSince base d core logging installing boot first entries last → settled ≤ settled_place core.log
-    → KeepsFiles before d boot first entries settled
+    → PreservesFiles before d boot first entries settled
 
 abbrev pub StopsNow : Type 0
 StopsNow = (base : Image) (d : Device) (core : CoreState) (logging installing : Pending) (boot : ℕ)
@@ -527,9 +527,9 @@ StopsNow = (base : Image) (d : Device) (core : CoreState) (logging installing : 
     → IsOpenSince base d core logging installing boot first entries last → IsCrashImage d d.clock image
     → LeavesBeginning d.size boot first entries (settled_place core.log) image
 
-files_now : KeepsNow → StopsNow → (o : Outset) (now : Opened) (worker : State) → AreBlocks now.device
+files_now : PreservesNow → StopsNow → (o : Outset) (now : Opened) (worker : State) → AreBlocks now.device
     → (was : IsCalling o now worker) → LeavesFiles o (o.entries ++ option_to_list was.entry) now
-files_now keeps stops o now worker blocks was =
+files_now preserves stops o now worker blocks was =
     let entries = o.entries ++ option_to_list was.entry in
     let since = subst (λ (boot : ℕ). IsOpenSince was.base now.device now.core nothing_out nothing_out boot
     o.first entries was.last)
@@ -537,18 +537,18 @@ files_now keeps stops o now worker blocks was =
     record {
       past = was.past;
       left = some_image o.store.device now.device blocks;
-      stops = keeps o.store.device now.device was.base now.core nothing_out nothing_out o.store.boot
-          (settled_place o.store.core.log) o.first was.last entries was.kept since was.further.settled;
+      stops = preserves o.store.device now.device was.base now.core nothing_out nothing_out o.store.boot
+          (settled_place o.store.core.log) o.first was.last entries was.is_preserved since was.further.settled;
       ended = λ image crash.
           stops was.base now.device now.core nothing_out nothing_out o.store.boot o.first was.last entries
           image since crash;
     }
 
 -- the store is open with what the call came to, and its worker is idle
-pub answered : KeepsNow → StopsNow → (o : Outset) (now : Opened) (worker : State) (ready : CallAnswer)
+pub answered : PreservesNow → StopsNow → (o : Outset) (now : Opened) (worker : State) (ready : CallAnswer)
     → AreBlocks now.device → HasStepped o now worker → Some ready ≡ worker.work.answer
     → HasAnswered o ready.verdict now × (worker.phase ≡ Phase.Idle)
-answered keeps stops o now worker ready blocks stepped is =
+answered preserves stops o now worker ready blocks stepped is =
     let was = stepped.calling in
     let some : is_some worker.work.answer ≡ true = ap is_some (sym is) in (
       record {
@@ -556,7 +556,7 @@ answered keeps stops o now worker ready blocks stepped is =
         last = was.last;
         boot = was.boot;
         comes = was.comes;
-        files = files_now keeps stops o now (told worker) blocks was;
+        files = files_now preserves stops o now (reported worker) blocks was;
         opened = record {
           base = was.base;
           opened = record {
@@ -574,6 +574,6 @@ answered keeps stops o now worker ready blocks stepped is =
         tells = subst (λ (o2 : Option CallAnswer). IfSome o2
             (λ ready. Tells o was.entry ready.verdict now)) (sym is) stepped.answer;
       },
-      idle_by o.store.boot (o.entries ++ option_to_list was.entry) (told worker) worker.phase was.stands.stands
+      idle_by o.store.boot (o.entries ++ option_to_list was.entry) (reported worker) worker.phase was.stands.stands
           (stepped.ends some),
     )

@@ -5,7 +5,7 @@ use Rattle.std.proofs.Common.{Bool, true, false, ◌||◌, if◌then◌else◌, 
 use Rattle.std.proofs.Common.{Result, Ok, Err}
 use Rattle.std.proofs.Common.{List, [], ◌∷◌, ◌++◌, length, map, option_to_list, zero, suc, slice_get}
 use Rattle.std.proofs.lemmas.Bool.Decides.{nat_tests}
-use Rattle.base.specs.declared.TheConstants.{MOST_KEPT_COMMITS}
+use Rattle.base.specs.declared.TheConstants.{MOST_UNINSTALLED_COMMITS}
 use Rattle.disk.specs.declared.block.BlockNo.{BlockNo}
 use Rattle.nfs_spec.specs.Model.Entry.{Entry}
 use Rattle.nfs_spec.specs.Model.Calls.{begins_transaction, is_answered_stable}
@@ -14,19 +14,19 @@ use Rattle.txn.specs.declared.outcomes.BeginFault.{BeginFault}
 use Rattle.txn.specs.declared.outcomes.BeginFault.TheVariants as begin_fault
 use Rattle.circ.specs.Log.Log.{settled_place}
 use Rattle.circ.specs.declared.log.outcomes.Seq.{Seq}
-use Rattle.store_promise.specs.LogTold.{settled_told}
+use Rattle.store_promise.specs.LogState.{state_settled}
 use Rattle.store_promise.specs.Progress.{Begun, Job, Progress, Stage, At, Idle, Called, Planning, Reading, Read}
-use Rattle.store_promise.specs.Progress.{Refused, Again, Waiting, Taken, Wished, after_called, after_claimed}
+use Rattle.store_promise.specs.Progress.{Refused, Again, Waiting, Taken, RangeRequest, after_called, after_claimed}
 use Rattle.store_promise.specs.Progress.{after_commit, after_planning, after_waiting, after_wanted, going_on}
-use Rattle.store_promise.specs.Progress.{aim_of, is_idle, kept_off, with_taken}
+use Rattle.store_promise.specs.Progress.{lock_request_of, is_idle, deferred, with_taken}
 use Rattle.store_promise.specs.Progress as how
-use Rattle.store_promise.specs.Aims.{is_barred}
-use Rattle.store_promise.specs.declared.aims.Aim.{Aim}
-use Rattle.store_promise.specs.declared.aims.Aim.TheVariants as aim
+use Rattle.store_promise.specs.LockRequests.{is_barred}
+use Rattle.store_promise.specs.declared.lock_requests.LockRequest.{LockRequest}
+use Rattle.store_promise.specs.declared.lock_requests.LockRequest.TheVariants as lock_request
 use Rattle.store_promise.specs.Progress.{stage_after}
-use Rattle.store_promise.specs.Schedule.{begun_after, IsClaimWish, IsCommitting, IsStepBeside}
+use Rattle.store_promise.specs.Schedule.{begun_after, IsClaimAnswer, IsCommitting, IsStepRetakingFirst}
 use Rattle.store_promise.specs.Schedule.{IsStepOfCalled}
-use Rattle.store_promise.specs.Schedule.{IsStepOfWork, IsWish, Setting, Told, wish_of}
+use Rattle.store_promise.specs.Schedule.{IsStepOfWork, IsLockAnswer, Setting, RunState, range_request_at}
 use Rattle.store_promise.specs.Transcript.{Transcript, committed_at, entry_of}
 use Rattle.store_promise.specs.Verdicts.{HasVerdict, IsReplyAt, cause_of}
 use Rattle.store_promise.specs.declared.answers.Verdict.{Verdict}
@@ -38,13 +38,13 @@ use Rattle.store_promise.specs.declared.events.Committing.TheVariants as committ
 use Rattle.store_promise.specs.declared.events.Ending.TheVariants as ending
 use Rattle.store_promise.specs.declared.events.Step.{Step}
 use Rattle.store_promise.specs.declared.events.Step.TheVariants as step
-use Rattle.store_promise.specs.declared.events.Wish.{Wish}
-use Rattle.store_promise.specs.declared.events.Wish.TheVariants as wish
+use Rattle.store_promise.specs.declared.events.LockAnswer.{LockAnswer}
+use Rattle.store_promise.specs.declared.events.LockAnswer.TheVariants as lock_answer
 use Rattle.store_promise.specs.declared.transcript.Answer.{Answer}
 use Rattle.store_promise.specs.declared.transcript.Committed.{Committed}
 use Rattle.store.specs.Runs.AtWork.{has_committed}
-use Rattle.store.specs.Calling.{ComesTo, FindsNoNumber, FindsNoRoom, HasCause, IsAfter, IsBegunFor, IsMadeFor}
-use Rattle.store.specs.Calling.{IsOfNull, IsRefusal, IsSoFar}
+use Rattle.store.specs.Calling.{ComesTo, FindsNoNumber, FindsNoLogSpace, HasCause, IsAfter, IsBegunFor, IsMadeFor}
+use Rattle.store.specs.Calling.{IsOfNull, IsRefusal, IsAtStage}
 use Rattle.store.specs.Calling.{Outset, StandsWith, Tells}
 use Rattle.store.specs.Driving.{waits_for_log}
 use Rattle.store_images.specs.Opening.{Opened}
@@ -56,27 +56,27 @@ use Rattle.store_promise.proofs.Later.{past_more}
 
 -- ---- an entry in a transcript
 
-abbrev pub noted : Entry → Committed
-noted e = record { worker = e.worker; ctx = e.ctx; call = e.call; reply = e.reply; event = 0; clock = 0 }
+abbrev pub traced : Entry → Committed
+traced e = record { worker = e.worker; ctx = e.ctx; call = e.call; reply = e.reply; event = 0; clock = 0 }
 
 -- what a history of these entries tells
-abbrev pub told_by : List Entry → Transcript
-told_by entries = record { boot = 0; history = map noted entries; answers = []; steps = [] }
+abbrev pub transcript_of_entries : List Entry → Transcript
+transcript_of_entries entries = record { boot = 0; history = map traced entries; answers = []; steps = [] }
 
-pub same_entries : (entries : List Entry) → map entry_of (map noted entries) ≡ entries
+pub same_entries : (entries : List Entry) → map entry_of (map traced entries) ≡ entries
 same_entries [] = refl
 same_entries (e ∷ entries) = λ i. e ∷ same_entries entries i
 
 last_of : (entries : List Entry) (e : Entry)
-    → slice_get (map noted (entries ++ e ∷ [])) (length entries) ≡ Some (noted e)
+    → slice_get (map traced (entries ++ e ∷ [])) (length entries) ≡ Some (traced e)
 last_of [] e = refl
 last_of (first ∷ entries) e = last_of entries e
 
-last_told : (entries : List Entry) (e : Entry) (place : ℕ) → place ≡ length entries + 1
-    → committed_at (told_by (entries ++ e ∷ [])) place ≡ Some (noted e)
-last_told entries e zero is = absurd (omega (arith, is))
-last_told entries e (suc index) is =
-    ap (slice_get (map noted (entries ++ e ∷ []))) (less index (length entries) is) ∙ last_of entries e
+last_entry_is : (entries : List Entry) (e : Entry) (place : ℕ) → place ≡ length entries + 1
+    → committed_at (transcript_of_entries (entries ++ e ∷ [])) place ≡ Some (traced e)
+last_entry_is entries e zero is = absurd (omega (arith, is))
+last_entry_is entries e (suc index) is =
+    ap (slice_get (map traced (entries ++ e ∷ []))) (less index (length entries) is) ∙ last_of entries e
   where
     less : (a b : ℕ) → suc a ≡ b + 1 → a ≡ b
     less a b same = omega (arith, same)
@@ -86,9 +86,9 @@ one_of a b is = cc
 
 -- the reply at its place is the entry's
 pub reply_is : (entries : List Entry) (e : Entry) (place : Seq) (a : Answer) → place.0 ≡ length entries + 1
-    → IsReplyAt (told_by (entries ++ e ∷ [])) place a → a.verdict ≡ verdict.Reply e.reply
-reply_is entries e place a at is = is.told ∙ ap (λ (c : Committed). verdict.Reply c.reply)
-    (one_of is.entry (noted e) (sym is.is_entry ∙ last_told entries e place.0 at))
+    → IsReplyAt (transcript_of_entries (entries ++ e ∷ [])) place a → a.verdict ≡ verdict.Reply e.reply
+reply_is entries e place a at is = is.is_replied ∙ ap (λ (c : Committed). verdict.Reply c.reply)
+    (one_of is.entry (traced e) (sym is.is_entry ∙ last_entry_is entries e place.0 at))
 
 -- ---- what a later store still has
 
@@ -110,8 +110,8 @@ module _ (o : Outset) (now new : Opened) (after : IsAfter now new) where
       → HasBroken o.store.core.log o.store.device new.device
   broken_after = broken_then o.store.core.log o.store.device now.device new.device after.past
 
-  no_room_then : (added : ℕ) → FindsNoRoom o now added → FindsNoRoom o new added
-  no_room_then added finds = record {
+  no_log_space_then : (added : ℕ) → FindsNoLogSpace o now added → FindsNoLogSpace o new added
+  no_log_space_then added finds = record {
     at = finds.at;
     since = finds.since;
     until = later_on finds.at now new finds.until after;
@@ -122,13 +122,13 @@ module _ (o : Outset) (now new : Opened) (after : IsAfter now new) where
     lacked = finds.lacked;
   }
 
-  spent_then : (added : ℕ) → FindsNoNumber o now ⊎ FindsNoRoom o now added
-      → FindsNoNumber o new ⊎ FindsNoRoom o new added
+  spent_then : (added : ℕ) → FindsNoNumber o now ⊎ FindsNoLogSpace o now added
+      → FindsNoNumber o new ⊎ FindsNoLogSpace o new added
   spent_then added (inl finds) = inl (record {
     sound = finds.sound;
     none = let begun = finds.none in let more = after.further.begun in omega (arith, begun, more);
   })
-  spent_then added (inr finds) = inr (no_room_then added finds)
+  spent_then added (inr finds) = inr (no_log_space_then added finds)
 
   pub cause_then : (added : ℕ) (why : Cause) → HasCause o now added why → HasCause o new added why
   cause_then added cause.Io has = failed_then has
@@ -172,44 +172,44 @@ module _ (o : Outset) (now new : Opened) (after : IsAfter now new) where
   )
   stands_then same entry (Refused begun why) has =
       (has.0, begun_then begun.number has.1, has.2, cause_then has.2 why has.3)
-  stands_then same entry (Again begun wished) has = (has.0, begun_then begun.number has.1)
+  stands_then same entry (Again begun request) has = (has.0, begun_then begun.number has.1)
   stands_then same entry (Waiting place) has = has
 
-  pub so_far_still : (begins_transaction o.asked.call ≡ false → new ≡ now) → (entry : Option Entry)
+  pub stage_still : (begins_transaction o.asked.call ≡ false → new ≡ now) → (entry : Option Entry)
       (progress : Progress)
-      → IsSoFar o entry now progress → IsSoFar o entry new progress
-  so_far_still same entry Idle has = tt
-  so_far_still same entry (At job stage) has = (has.0, stands_then same entry stage has.1)
+      → IsAtStage o entry now progress → IsAtStage o entry new progress
+  stage_still same entry Idle has = tt
+  stage_still same entry (At job stage) has = (has.0, stands_then same entry stage has.1)
 
   pub tells_still : new.core.begun ≡ now.core.begun
-      → (begins_transaction o.asked.call ≡ false → length now.core.records ≤ MOST_KEPT_COMMITS → new ≡ now)
-      → (entry : Option Entry) (told : Verdict) → Tells o entry told now → Tells o entry told new
-  tells_still none_begun same None told (inl unserved) = inl (record {
+      → (begins_transaction o.asked.call ≡ false → length now.core.records ≤ MOST_UNINSTALLED_COMMITS → new ≡ now)
+      → (entry : Option Entry) (given_verdict : Verdict) → Tells o entry given_verdict now → Tells o entry given_verdict new
+  tells_still none_begun same None given_verdict (inl unserved) = inl (record {
     begins = unserved.begins;
     begun = none_begun ∙ unserved.begun;
     left = λ few.
         let was = unserved.left few in
-        same unserved.begins (subst (λ (x : Opened). length x.core.records ≤ MOST_KEPT_COMMITS)
+        same unserved.begins (subst (λ (x : Opened). length x.core.records ≤ MOST_UNINSTALLED_COMMITS)
         (sym was) few) ∙ was;
-    told_is = unserved.told_is;
+    verdict_is_reply = unserved.verdict_is_reply;
   })
-  tells_still none_begun same None told (inr refused) = inr (record {
+  tells_still none_begun same None given_verdict (inr refused) = inr (record {
     begins = refused.begins;
     why = refused.why;
-    told_is = refused.told_is;
+    verdict_is_reply = refused.verdict_is_reply;
     added = refused.added;
     because = cause_then refused.added refused.why refused.because;
   })
-  tells_still none_begun same (Some entry) told (inl reply) = inl (record {
-    told_is = reply.told_is;
+  tells_still none_begun same (Some entry) given_verdict (inl reply) = inl (record {
+    verdict_is_reply = reply.verdict_is_reply;
     settled = λ waits.
         let there = reply.settled waits in
         let more = after.further.settled in
         omega (arith, there, more);
   })
-  tells_still none_begun same (Some entry) told (inr unsettled) = inr (record {
+  tells_still none_begun same (Some entry) given_verdict (inr unsettled) = inr (record {
     stable = unsettled.stable;
-    told_is = unsettled.told_is;
+    verdict_is_reply = unsettled.verdict_is_reply;
     broken = after.further.broken unsettled.broken;
     failed = broken_after unsettled.failed;
   })
@@ -228,16 +228,16 @@ le_of : (a b : ℕ) → nat_le a b ≡ true → a ≤ b
 le_of a b is = grind (arith, nat_tests)
 
 -- what is told of the store before a step of the worker is what it has
-pub record IsStepFrom (o : Outset) (now : Opened) (s : Setting) (t : Told) : Type 0 where
+pub record IsStepFrom (o : Outset) (now : Opened) (s : Setting) (t : RunState) : Type 0 where
   pub broken_is : t.log.broken ≡ now.core.log.broken
   pub begun_is : t.begun ≡ now.core.begun
   pub more_begun : o.store.core.begun ≤ now.core.begun
-  pub settled_is : settled_told t.log ≡ settled_place now.core.log
+  pub settled_is : state_settled t.log ≡ settled_place now.core.log
   pub still_broken : o.store.core.log.broken ≡ true → now.core.log.broken ≡ true
   pub past : IsLater o.store.device now.device
   pub broke : now.core.log.broken ≡ true → HasBroken o.store.core.log o.store.device now.device
 
-module _ (o : Outset) (now new : Opened) (s : Setting) (t : Told) (from : IsStepFrom o now s t)
+module _ (o : Outset) (now new : Opened) (s : Setting) (t : RunState) (from : IsStepFrom o now s t)
     (after : IsAfter now new) where
   abbrev stable : Bool
   stable = is_answered_stable o.asked.call
@@ -314,49 +314,49 @@ module _ (o : Outset) (now new : Opened) (s : Setting) (t : Told) (from : IsStep
     NoneIn begun = (entry ≡ None) × IsBegunFor o new begun.number
 
     -- who is kept off waits, or begins again
-    off_ok : (begun : Begun) (wished : Aim) → NoneIn begun → StandsWith o entry new (kept_off begun wished)
-    off_ok begun wished none = by (is_barred wished begun.taken)
+    off_ok : (begun : Begun) (request : LockRequest) → NoneIn begun → StandsWith o entry new (deferred begun request)
+    off_ok begun request none = by (is_barred request begun.taken)
       where
-        by : (above : Bool) → StandsWith o entry new (if above then Again begun (Some wished) else Planning begun)
+        by : (above : Bool) → StandsWith o entry new (if above then Again begun (Some request) else Planning begun)
         by true = none
         by false = none
 
-    held_ok : (begun : Begun) (taken : Taken) (left : List Aim) → NoneIn begun
-        → StandsWith o entry new (Planning (how.told_by left (with_taken begun (aim_of taken)) taken))
+    held_ok : (begun : Begun) (taken : Taken) (left : List LockRequest) → NoneIn begun
+        → StandsWith o entry new (Planning (how.object_read_by left (with_taken begun (lock_request_of taken)) taken))
     held_ok begun taken [] none = none
     held_ok begun taken (next ∷ later) none = none
 
-    taken_ok : (begun : Begun) (block : BlockNo) (left : List Aim) → NoneIn begun
-        → StandsWith o entry new (Planning (how.claimed_by left (with_taken begun (aim.Claim block)) block))
+    taken_ok : (begun : Begun) (block : BlockNo) (left : List LockRequest) → NoneIn begun
+        → StandsWith o entry new (Planning (how.claimed_by left (with_taken begun (lock_request.Claim block)) block))
     taken_ok begun block [] none = none
     taken_ok begun block (next ∷ later) none = none
 
-    wanted_ok : (begun : Begun) (taken : Taken) (answer : Wish) → NoneIn begun
-        → (answer ≡ wish.Outside → ⊥) → StandsWith o entry new (after_wanted begun taken answer)
-    wanted_ok begun taken wish.Held none inside = held_ok begun taken begun.left none
-    wanted_ok begun taken wish.Fetch none inside = none
-    wanted_ok begun taken wish.Busy none inside = off_ok begun (aim_of taken) none
-    wanted_ok begun taken wish.Loading none inside = off_ok begun (aim_of taken) none
-    wanted_ok begun taken wish.Outside none inside = absurd (inside refl)
-    wanted_ok begun taken wish.NoMemory none inside = (none.0, none.1, 0, tt)
+    wanted_ok : (begun : Begun) (taken : Taken) (answer : LockAnswer) → NoneIn begun
+        → (answer ≡ lock_answer.Outside → ⊥) → StandsWith o entry new (after_wanted begun taken answer)
+    wanted_ok begun taken lock_answer.Held none inside = held_ok begun taken begun.left none
+    wanted_ok begun taken lock_answer.Fetch none inside = none
+    wanted_ok begun taken lock_answer.Busy none inside = off_ok begun (lock_request_of taken) none
+    wanted_ok begun taken lock_answer.Loading none inside = off_ok begun (lock_request_of taken) none
+    wanted_ok begun taken lock_answer.Outside none inside = absurd (inside refl)
+    wanted_ok begun taken lock_answer.NoMemory none inside = (none.0, none.1, 0, tt)
 
-    claimed_ok : (begun : Begun) (block : BlockNo) (answer : Wish) → NoneIn begun
-        → (answer ≡ wish.Outside → ⊥) → StandsWith o entry new (after_claimed begun block answer)
-    claimed_ok begun block wish.Held none inside = taken_ok begun block begun.left none
-    claimed_ok begun block wish.Fetch none inside = none
-    claimed_ok begun block wish.Busy none inside = off_ok begun (aim.Claim block) none
-    claimed_ok begun block wish.Loading none inside = off_ok begun (aim.Claim block) none
-    claimed_ok begun block wish.Outside none inside = absurd (inside refl)
-    claimed_ok begun block wish.NoMemory none inside = (none.0, none.1, 0, tt)
+    claimed_ok : (begun : Begun) (block : BlockNo) (answer : LockAnswer) → NoneIn begun
+        → (answer ≡ lock_answer.Outside → ⊥) → StandsWith o entry new (after_claimed begun block answer)
+    claimed_ok begun block lock_answer.Held none inside = taken_ok begun block begun.left none
+    claimed_ok begun block lock_answer.Fetch none inside = none
+    claimed_ok begun block lock_answer.Busy none inside = off_ok begun (lock_request.Claim block) none
+    claimed_ok begun block lock_answer.Loading none inside = off_ok begun (lock_request.Claim block) none
+    claimed_ok begun block lock_answer.Outside none inside = absurd (inside refl)
+    claimed_ok begun block lock_answer.NoMemory none inside = (none.0, none.1, 0, tt)
 
-    never_outside : (begun : Begun) (wished : Wished) (answer : Wish) → IsWish t 0 begun wished answer
-        → answer ≡ wish.Outside → ⊥
-    never_outside begun wished answer is same = subst (IsWish t 0 begun wished) same is
+    never_outside : (begun : Begun) (request : RangeRequest) (answer : LockAnswer) → IsLockAnswer t 0 begun request answer
+        → answer ≡ lock_answer.Outside → ⊥
+    never_outside begun request answer is same = subst (IsLockAnswer t 0 begun request) same is
 
-    never_claimed_outside : (begun : Begun) (block : BlockNo) (answer : Wish)
-        → IsClaimWish t 0 begun block answer
-        → answer ≡ wish.Outside → ⊥
-    never_claimed_outside begun block answer is same = subst (IsClaimWish t 0 begun block) same is
+    never_claimed_outside : (begun : Begun) (block : BlockNo) (answer : LockAnswer)
+        → IsClaimAnswer t 0 begun block answer
+        → answer ≡ lock_answer.Outside → ⊥
+    never_claimed_outside begun block answer is same = subst (IsClaimAnswer t 0 begun block) same is
 
     -- where the numbers are spent, the call says for which change
     abbrev pub SaysSpent : Type 0
@@ -380,20 +380,20 @@ module _ (o : Outset) (now new : Opened) (s : Setting) (t : Told) (from : IsStep
     waits_ok true place stands = tt
     waits_ok false place stands = stands
 
-    called_ok : (known : List Aim) (made : Step) → entry ≡ None
+    called_ok : (known : List LockRequest) (made : Step) → entry ≡ None
         → IsStepOfCalled t (begins_transaction o.asked.call) made
         → new.core.begun ≡ begun_after now.core.begun made → StageOk (after_called known made)
     called_ok known (step.Begun (Ok number)) none may then_ = (none, number_taken number may then_)
     called_ok known (step.Begun (Err why)) none may then_ = tt
     called_ok known _ none may then_ = tt
 
-    planning_ok : (left : List Aim) (begun : Begun) (made : Step) → has_committed (Some made) ≡ false
-        → NoneIn begun → IsStepBeside left s t 0 begun made
+    planning_ok : (left : List LockRequest) (begun : Begun) (made : Step) → has_committed (Some made) ≡ false
+        → NoneIn begun → IsStepRetakingFirst left s t 0 begun made
         → ((blocks : List BlockNo) → made ≡ step.Commit blocks committing.Spent → SaysSpent)
         → StageOk (after_planning stable begun made)
     planning_ok [] begun (step.Wanted addr mode answer) not none may spent =
         wanted_ok begun (record { addr = addr; mode = mode }) answer none
-        (never_outside begun (wish_of addr mode) answer may.1)
+        (never_outside begun (range_request_at addr mode) answer may.1)
     planning_ok [] begun (step.Claimed block answer) not none may spent =
         claimed_ok begun block answer none (never_claimed_outside begun block answer may.1)
     planning_ok [] begun (step.Commit blocks answer) not none may spent =
@@ -403,7 +403,7 @@ module _ (o : Outset) (now new : Opened) (s : Setting) (t : Told) (from : IsStep
     planning_ok [] begun _ not none may spent = none
     planning_ok (next ∷ later) begun (step.Wanted addr mode answer) not none may spent =
         wanted_ok begun (record { addr = addr; mode = mode }) answer none
-        (never_outside begun (wish_of addr mode) answer may.1)
+        (never_outside begun (range_request_at addr mode) answer may.1)
     planning_ok (next ∷ later) begun (step.Claimed block answer) not none may spent =
         claimed_ok begun block answer none (never_claimed_outside begun block answer may.1)
     planning_ok (next ∷ later) begun _ not none may spent = absurd may
@@ -434,104 +434,104 @@ module _ (o : Outset) (now new : Opened) (s : Setting) (t : Told) (from : IsStep
       cause_then o now new after 0 cause.Io (inr stands.2),
     )
     next_ok (Refused begun why) made not stands may then_ spent = tt
-    next_ok (Again begun wished) made not stands may then_ spent =
+    next_ok (Again begun request) made not stands may then_ spent =
         (stands.0, λ unserved. absurd (true≢false (sym stands.1.begins ∙ unserved)))
     next_ok (Waiting place) made not stands may then_ spent = waiting_ok place made stands
 
-    pub so_far_then : (next : Option Stage) → StageOk next → IsSoFar o entry new (going_on o.asked next)
-    so_far_then None ok = tt
-    so_far_then (Some stage) ok = (refl, ok)
+    pub stage_then : (next : Option Stage) → StageOk next → IsAtStage o entry new (going_on o.asked next)
+    stage_then None ok = tt
+    stage_then (Some stage) ok = (refl, ok)
 
     -- ---- what it answers
     none_tells : (a : Answer) → entry ≡ None → IsOfNull o a.verdict new ⊎ IsRefusal o a.verdict new
         → Tells o entry a.verdict new
     none_tells a none tells = subst (λ (e : Option Entry). Tells o e a.verdict new) (sym none) tells
 
-    called_tells : (known : List Aim) (made : Step) (t2 : Transcript) (a : Answer)
+    called_tells : (known : List LockRequest) (made : Step) (t2 : Transcript) (a : Answer)
         → (entry ≡ None) × (begins_transaction o.asked.call ≡ false → now ≡ o.store)
         → (made ≡ step.Replied → new ≡ now)
         → IsStepOfCalled t (begins_transaction o.asked.call) made
         → new.core.begun ≡ begun_after now.core.begun made
         → HasVerdict t2 o.asked.call (Called known) made a → Tells o entry a.verdict new
-    called_tells known step.Replied t2 a stands same may then_ told =
+    called_tells known step.Replied t2 a stands same may then_ proven =
         let none = unserved (begins_transaction o.asked.call) refl may in
         let was = stands.1 none in
         none_tells a stands.0 (inl (record {
           begins = none;
           begun = then_ ∙ ap (λ (x : Opened). x.core.begun) was;
           left = λ few. same refl ∙ was;
-          told_is = told.1;
+          verdict_is_reply = proven.1;
         }))
-    called_tells known (step.Begun (Err why)) t2 a stands same may then_ told = none_tells a stands.0
+    called_tells known (step.Begun (Err why)) t2 a stands same may then_ proven = none_tells a stands.0
         (inr (record {
           begins = is_served (begins_transaction o.asked.call) (Err why) refl may;
           why = cause_of why;
-          told_is = told.1;
+          verdict_is_reply = proven.1;
           added = 0;
           because = begin_cause (begins_transaction o.asked.call) why may;
         }))
-    called_tells known (step.Begun (Ok number)) t2 a stands same may then_ told = absurd told
-    called_tells known _ t2 a stands same may then_ told = absurd told
+    called_tells known (step.Begun (Ok number)) t2 a stands same may then_ proven = absurd proven
+    called_tells known _ t2 a stands same may then_ proven = absurd proven
 
     planning_tells : (begun : Begun) (made : Step) (t2 : Transcript) (a : Answer)
         → has_committed (Some made) ≡ false → StandsWith o entry now (Planning begun)
         → HasVerdict t2 o.asked.call (Planning begun) made a
         → Tells o entry a.verdict new
-    planning_tells begun (step.Commit blocks (committing.Committed place)) t2 a not stands told =
+    planning_tells begun (step.Commit blocks (committing.Committed place)) t2 a not stands proven =
         absurd (true≢false not)
-    planning_tells begun (step.Ended ending.NoMemory) t2 a not stands told = none_tells a stands.0
+    planning_tells begun (step.Ended ending.NoMemory) t2 a not stands proven = none_tells a stands.0
         (inr (record {
           begins = stands.1.begins;
           why = cause.NoMemory;
-          told_is = told.1;
+          verdict_is_reply = proven.1;
           added = 0;
           because = tt;
         }))
-    planning_tells begun (step.Ended ending.Refused) t2 a not stands told = absurd told
-    planning_tells begun (step.Ended ending.Again) t2 a not stands told = absurd told
-    planning_tells begun (step.Commit blocks committing.Full) t2 a not stands told = absurd told
-    planning_tells begun (step.Commit blocks committing.Foreign) t2 a not stands told = absurd told
-    planning_tells begun (step.Commit blocks committing.NoMemory) t2 a not stands told = absurd told
-    planning_tells begun (step.Commit blocks committing.Broken) t2 a not stands told = absurd told
-    planning_tells begun (step.Commit blocks committing.Spent) t2 a not stands told = absurd told
-    planning_tells begun _ t2 a not stands told = absurd told
+    planning_tells begun (step.Ended ending.Refused) t2 a not stands proven = absurd proven
+    planning_tells begun (step.Ended ending.Again) t2 a not stands proven = absurd proven
+    planning_tells begun (step.Commit blocks committing.Full) t2 a not stands proven = absurd proven
+    planning_tells begun (step.Commit blocks committing.Foreign) t2 a not stands proven = absurd proven
+    planning_tells begun (step.Commit blocks committing.NoMemory) t2 a not stands proven = absurd proven
+    planning_tells begun (step.Commit blocks committing.Broken) t2 a not stands proven = absurd proven
+    planning_tells begun (step.Commit blocks committing.Spent) t2 a not stands proven = absurd proven
+    planning_tells begun _ t2 a not stands proven = absurd proven
 
     refused_tells : (begun : Begun) (why : Cause) (made : Step) (t2 : Transcript) (a : Answer)
         → StandsWith o entry now (Refused begun why) → HasVerdict t2 o.asked.call (Refused begun why) made a
         → Tells o entry a.verdict new
-    refused_tells begun why (step.Ended ending.Refused) t2 a stands told = none_tells a stands.0
+    refused_tells begun why (step.Ended ending.Refused) t2 a stands proven = none_tells a stands.0
         (inr (record {
           begins = stands.1.begins;
           why = why;
-          told_is = told.1;
+          verdict_is_reply = proven.1;
           added = stands.2;
           because = cause_then o now new after stands.2 why stands.3;
         }))
-    refused_tells begun why (step.Ended ending.NoMemory) t2 a stands told = absurd told
-    refused_tells begun why (step.Ended ending.Again) t2 a stands told = absurd told
-    refused_tells begun why _ t2 a stands told = absurd told
+    refused_tells begun why (step.Ended ending.NoMemory) t2 a stands proven = absurd proven
+    refused_tells begun why (step.Ended ending.Again) t2 a stands proven = absurd proven
+    refused_tells begun why _ t2 a stands proven = absurd proven
 
   -- the procedure was committed, and its place is waited for
   waiting_tells : (entry : Option Entry) (place : ℕ) (made : Step) (a : Answer)
       → StandsWith o entry now (Waiting place) → IsStepOfWork s t 0 (At o.asked (Waiting place)) (Some made)
       → is_idle (going_on o.asked (after_waiting broken place made)) ≡ true
-      → HasVerdict (told_by (o.entries ++ option_to_list entry)) o.asked.call (Waiting place) made a
+      → HasVerdict (transcript_of_entries (o.entries ++ option_to_list entry)) o.asked.call (Waiting place) made a
       → Tells o entry a.verdict new
-  waiting_tells None place made a stands may ends told = absurd (true≢false (sym stands.1))
-  waiting_tells (Some e) place (step.Stable seq true) a stands may ends told = inl (record {
-    told_is = reply_is o.entries e (record { 0 = place }) a stands.0 told;
+  waiting_tells None place made a stands may ends proven = absurd (true≢false (sym stands.1))
+  waiting_tells (Some e) place (step.Stable seq true) a stands may ends proven = inl (record {
+    verdict_is_reply = reply_is o.entries e (record { 0 = place }) a stands.0 proven;
     settled = λ waits.
-        let there = le_of place (settled_told t.log) (sym may.1) in
+        let there = le_of place (state_settled t.log) (sym may.1) in
         let is = from.settled_is in
         let at = stands.0 in
         let still = after.further.settled in
         omega (arith, there, is, at, still);
   })
-  waiting_tells (Some e) place (step.Stable seq false) a stands may ends told =
+  waiting_tells (Some e) place (step.Stable seq false) a stands may ends proven =
       let is_broken = broken_by broken ends in
       inr (record {
         stable = stands.2;
-        told_is = told.1;
+        verdict_is_reply = proven.1;
         broken = after.further.broken is_broken;
         failed = breaks is_broken;
       })
@@ -541,41 +541,41 @@ module _ (o : Outset) (now new : Opened) (s : Setting) (t : Told) (from : IsStep
           → b ≡ true
       broken_by true is = refl
       broken_by false is = absurd (true≢false (sym is))
-  waiting_tells (Some e) place _ a stands may ends told = absurd told
+  waiting_tells (Some e) place _ a stands may ends proven = absurd proven
 
   pub tells_of : (entry : Option Entry) (stage : Stage) (made : Step) (a : Answer)
       → has_committed (Some made) ≡ false → StandsWith o entry now stage
       → IsStepOfWork s t 0 (At o.asked stage) (Some made)
       → new.core.begun ≡ begun_after now.core.begun made
-      → ((known : List Aim) → stage ≡ Called known → made ≡ step.Replied → new ≡ now)
+      → ((known : List LockRequest) → stage ≡ Called known → made ≡ step.Replied → new ≡ now)
       → is_idle (going_on o.asked (stage_after broken stable made stage)) ≡ true
-      → HasVerdict (told_by (o.entries ++ option_to_list entry)) o.asked.call stage made a
+      → HasVerdict (transcript_of_entries (o.entries ++ option_to_list entry)) o.asked.call stage made a
       → Tells o entry a.verdict new
-  tells_of entry (Called known) made a not stands may then_ same ends told =
-      called_tells entry known made (told_by (o.entries ++ option_to_list entry)) a stands (same known refl) may
-      then_ told
-  tells_of entry (Planning begun) made a not stands may then_ same ends told =
-      planning_tells entry begun made (told_by (o.entries ++ option_to_list entry)) a not stands told
-  tells_of entry (Reading begun taken) made a not stands may then_ same ends told =
+  tells_of entry (Called known) made a not stands may then_ same ends proven =
+      called_tells entry known made (transcript_of_entries (o.entries ++ option_to_list entry)) a stands (same known refl) may
+      then_ proven
+  tells_of entry (Planning begun) made a not stands may then_ same ends proven =
+      planning_tells entry begun made (transcript_of_entries (o.entries ++ option_to_list entry)) a not stands proven
+  tells_of entry (Reading begun taken) made a not stands may then_ same ends proven =
       absurd (true≢false (sym (still made ends))) where
         still : (made : Step)
             → is_idle (going_on o.asked (stage_after broken stable made (Reading begun taken))) ≡ true
             → false ≡ true
         still (step.Read block ok) is = is
         still _ is = is
-  tells_of entry (Read begun taken true) made a not stands may then_ same ends told =
+  tells_of entry (Read begun taken true) made a not stands may then_ same ends proven =
       absurd (true≢false (sym ends))
-  tells_of entry (Read begun taken false) made a not stands may then_ same ends told =
+  tells_of entry (Read begun taken false) made a not stands may then_ same ends proven =
       absurd (true≢false (sym ends))
-  tells_of entry (Refused begun why) made a not stands may then_ same ends told =
-      refused_tells entry begun why made (told_by (o.entries ++ option_to_list entry)) a stands told
-  tells_of entry (Again begun wished) made a not stands may then_ same ends told = absurd (true≢false (sym ends))
-  tells_of entry (Waiting place) made a not stands may then_ same ends told =
-      waiting_tells entry place made a stands may ends told
+  tells_of entry (Refused begun why) made a not stands may then_ same ends proven =
+      refused_tells entry begun why made (transcript_of_entries (o.entries ++ option_to_list entry)) a stands proven
+  tells_of entry (Again begun request) made a not stands may then_ same ends proven = absurd (true≢false (sym ends))
+  tells_of entry (Waiting place) made a not stands may then_ same ends proven =
+      waiting_tells entry place made a stands may ends proven
 
 -- ---- a call that waits for the log is served
 
-module _ (o : Outset) (now : Opened) (s : Setting) (t : Told) (entry : Option Entry) (last : Tree)
+module _ (o : Outset) (now : Opened) (s : Setting) (t : RunState) (entry : Option Entry) (last : Tree)
     (comes : ComesTo o now entry last) where
   made_served : (e : Option Entry) → ComesTo o now e last → is_some e ≡ true
       → begins_transaction o.asked.call ≡ true
@@ -599,10 +599,10 @@ module _ (o : Outset) (now : Opened) (s : Setting) (t : Told) (entry : Option En
   stage_waits (Read begun taken true) made stands may waits = stands.1.begins
   stage_waits (Read begun taken false) made stands may waits = stands.1.begins
   stage_waits (Refused begun why) made stands may waits = stands.1.begins
-  stage_waits (Again begun wished) made stands may waits = stands.1.begins
+  stage_waits (Again begun request) made stands may waits = stands.1.begins
   stage_waits (Waiting place) made stands may waits = made_served entry comes stands.1
 
-  pub waits_served : (p : Progress) (made : Option Step) → IsSoFar o entry now p → IsStepOfWork s t 0 p made
+  pub waits_served : (p : Progress) (made : Option Step) → IsAtStage o entry now p → IsStepOfWork s t 0 p made
       → waits_for_log made ≡ true → begins_transaction o.asked.call ≡ true
   waits_served p None has may waits = absurd (true≢false (sym waits))
   waits_served Idle (Some made) has may waits = absurd (some_none made may)
@@ -619,18 +619,18 @@ module _ (o : Outset) (new : Opened) (e : Entry) (begun : Begun) (place : Seq)
   abbrev next_stage : Option Stage
   next_stage = after_commit (is_answered_stable o.asked.call) begun (committing.Committed place)
 
-  pub made_so_far : IsSoFar o (Some e) new (going_on o.asked next_stage)
-  made_so_far = by (is_answered_stable o.asked.call) refl
+  pub made_at_stage : IsAtStage o (Some e) new (going_on o.asked next_stage)
+  made_at_stage = by (is_answered_stable o.asked.call) refl
     where
       by : (b : Bool) → is_answered_stable o.asked.call ≡ b
-          → IsSoFar o (Some e) new (going_on o.asked (if b then Some (Waiting place.0) else None))
+          → IsAtStage o (Some e) new (going_on o.asked (if b then Some (Waiting place.0) else None))
       by true is = (refl, (at, refl, is))
       by false is = tt
 
   pub made_tells : (a : Answer) → is_idle (going_on o.asked next_stage) ≡ true
-      → IsReplyAt (told_by (o.entries ++ e ∷ [])) place a → Tells o (Some e) a.verdict new
-  made_tells a ends told = inl (record {
-    told_is = reply_is o.entries e place a at told;
+      → IsReplyAt (transcript_of_entries (o.entries ++ e ∷ [])) place a → Tells o (Some e) a.verdict new
+  made_tells a ends proven = inl (record {
+    verdict_is_reply = reply_is o.entries e place a at proven;
     settled = λ waits. absurd (true≢false (sym (by (is_answered_stable o.asked.call) waits ends)));
   })
     where

@@ -4,16 +4,16 @@ use Rattle.disk.specs.Device.{Device}
 use Rattle.txn_law.specs.Core.{CoreState}
 use Rattle.store.specs.Calling.{HasWaited}
 use Rattle.store_images.specs.Further.{LeavesOpen}
-use Rattle.store_images.specs.SettlingStops.{KeepsPrefixes}
+use Rattle.store_images.specs.SettlingStops.{PreservesPrefixes}
 use Rattle.store_images.proofs.Staying.{stays_of, still_open}
 use Rattle.store_images.proofs.StillOpen.{same_open}
 
 pub has_settled : (waits : Bool) (before later : Device) (old new : CoreState) → waits ≡ true
-    → LeavesOpen before old later new → KeepsPrefixes before old later new
+    → LeavesOpen before old later new → PreservesPrefixes before old later new
     → HasWaited waits before old later new
-has_settled waits before later old new is opens keeps = record {
+has_settled waits before later old new is opens preserves = record {
   opens = opens;
-  stays = stays_of before later old new keeps;
+  stays = stays_of before later old new preserves;
   none = λ off. absurd (true≢false (sym is ∙ off));
 }
 

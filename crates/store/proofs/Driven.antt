@@ -40,7 +40,7 @@ use Rattle.txn.specs.declared.outcomes.Commit.{Commit}
 use Rattle.txn.specs.declared.outcomes.Commit.TheVariants as commit
 use Rattle.txn.specs.declared.outcomes.Want.{Want}
 use Rattle.txn.specs.declared.outcomes.Want.TheVariants as want
-use Rattle.txn_law.specs.Wishes.{IsFetched}
+use Rattle.txn_law.specs.LockAnswers.{IsFetched}
 use Rattle.store_promise.specs.Verdicts.{refusal}
 use Rattle.store_promise.specs.declared.answers.CallAnswer.{CallAnswer}
 use Rattle.store_promise.specs.declared.answers.Verdict.{Verdict}
@@ -50,15 +50,15 @@ use Rattle.store_promise.specs.declared.events.Step.{Step}
 use Rattle.store_promise.specs.declared.events.Step.TheVariants as step
 use Rattle.store.proofs.AtHand.{at_most_all, fewer_away}
 use Rattle.store_workers.proofs.LoneWorker.{has_of}
-use Rattle.store.proofs.LogRoom.{no_room}
-use Rattle.store_workers.proofs.StepKinds.{Beginning, IsTold, beginning, ending}
+use Rattle.store.proofs.LogSpace.{no_log_space}
+use Rattle.store_workers.proofs.StepKinds.{Beginning, IsAnsweredAtOnce, beginning, ending}
 use Rattle.store_workers.proofs.StepKinds.{begun, refused, replied, lacked, committed}
-use Rattle.store_promise.specs.declared.aims.Aim.{Aim}
-use Rattle.store_workers.specs.Alone.{HasOfCall, HasTaken, LeavesNothing, PlansAlone, is_full, is_kept_off}
+use Rattle.store_promise.specs.declared.lock_requests.LockRequest.{LockRequest}
+use Rattle.store_workers.specs.Single.{HasOfCall, HasTaken, LeavesNothing, HasTakenInPlan, is_full, is_deferred}
 use Rattle.store_workers.specs.Knowing.{nothing_known}
-use Rattle.store_images.specs.Fetches.{KeepsFetches}
+use Rattle.store_images.specs.Fetches.{PreservesFetches}
 use Rattle.store.specs.Driving.{HasGoneOn, HasAnswer, IsNearer, IsUnder, IsUnderWay}
-use Rattle.store.specs.Driving.{away, count_of, has_room, is_at_hand}
+use Rattle.store.specs.Driving.{away, count_of, has_log_space, is_at_hand}
 use Rattle.store.specs.Driving.{left_in, most_taken, rounds_left, steps_left, untaken}
 use Rattle.store.specs.Driving.{waits_for_log}
 use Rattle.store.specs.Driving.{whole_round}
@@ -66,17 +66,17 @@ use Rattle.store_images.specs.Counts.{SameFrame}
 use Rattle.store_images.specs.Opening.{IsSettled}
 use Rattle.store_images.specs.Settling.{SameNumbers}
 use Rattle.store_workers.specs.Seen.{Seen, seen_in, seen_of, with_claim, with_object}
-use Rattle.store_workers.specs.WorkerAnswers.{after_commit, begun_wanted, claim_wish, committing_of}
+use Rattle.store_workers.specs.WorkerAnswers.{after_commit, begun_wanted, claim_answer, committing_of}
 use Rattle.store_workers.specs.WorkerAnswers.{phase_claimed, phase_wanted, seen_claimed, seen_wanted}
-use Rattle.store_workers.specs.WorkerAnswers.{told_of, wish_of, with_answer}
+use Rattle.store_workers.specs.WorkerAnswers.{answered_or_waiting, want_answer, with_answer}
 use Rattle.store_workers.specs.WorkerAnswers.{with_entry}
-use Rattle.store_workers.specs.Telling as telling
+use Rattle.store_workers.specs.RunReports as run_reports
 use Rattle.store_workers.specs.Worker.{with_call}
 use Rattle.store_workers.specs.WorkerReads.{HasReadBlock}
 use Rattle.store_workers.specs.WorkerSteps.{GoesByNext, GoesOn, HasBegun, HasLacked}
-use Rattle.store_workers.specs.WorkerSteps.{IsNext, Side, Waits, IsTold as IsHeard, BeginsAgain, HasGivenBack}
+use Rattle.store_workers.specs.WorkerSteps.{IsNext, WorkerAndCore, Waits, IsReplySent as IsHeard, BeginsAgain, HasGivenBack}
 use Rattle.store_workers.specs.WorkerSteps.{HasLeft, HasRefused}
-use Rattle.store_workers.specs.WorkerSteps.{Refuses, none_begun, planned_of, side, with_snap}
+use Rattle.store_workers.specs.WorkerSteps.{Refuses, none_begun, planned_of, worker_and_core, with_snap}
 use Rattle.store_workers.specs.declared.workers.parts.Begun.{Begun}
 use Rattle.store_workers.specs.declared.workers.parts.Job.{Job}
 use Rattle.store_workers.specs.declared.workers.parts.Phase.{Phase}
@@ -124,15 +124,15 @@ nearer most state core phase is under less = inr (record {
   less = subst (λ p. left_in p state.work core < most) (sym is) less;
 })
 
-answered : (most : ℕ) (state old : State) (core : CoreState) (told : Verdict) (place : Option Seq)
-    → state ≡ with_answer told place old → HasGoneOn most state core
-answered most state old core told place is = inl (record {
+answered : (most : ℕ) (state old : State) (core : CoreState) (given_verdict : Verdict) (place : Option Seq)
+    → state ≡ with_answer given_verdict place old → HasGoneOn most state core
+answered most state old core given_verdict place is = inl (record {
   idle = ap (λ (s : State). s.phase) is;
   there = ap (λ (s : State). is_some s.work.answer) is;
 })
 
 -- a read is due, of a block that isn't at hand
-pub record IsToRead (old new : Side) : Type 0 where
+pub record IsToRead (old new : WorkerAndCore) : Type 0 where
   pub phase : new.worker.phase ≡ Reading
   pub tx : ℕ
   pub addr : Addr
@@ -147,22 +147,22 @@ pub record IsToRead (old new : Side) : Type 0 where
   pub answer : new.worker.work.answer ≡ old.worker.work.answer
 
 -- a commit was refused for want of room: the call begins again once there is some
-pub record IsFull (most : ℕ) (new : Side) : Type 0 where
+pub record IsFull (most : ℕ) (new : WorkerAndCore) : Type 0 where
   pub phase : new.worker.phase ≡ Planning
   pub less : whole_round new.core.log.blocks + 1 < most
 
 -- it waits for its place, which was taken
-pub record IsToSettle (old new : Side) (place : Seq) : Type 0 where
+pub record IsToSettle (old new : WorkerAndCore) (place : Seq) : Type 0 where
   pub same : new.worker ≡ old.worker
   pub unsettled : nat_le place.0 (settled_place old.core.log) ≡ false
   pub sound : old.core.log.broken ≡ false
   pub within : place.0 ≤ new.core.log.places
 
 -- what a step comes to, before what it waits for
-pub data Came (phase : Phase) (old : Side) (made : Option Step) (new : Side) : Type 0 where
+pub data Came (phase : Phase) (old : WorkerAndCore) (made : Option Step) (new : WorkerAndCore) : Type 0 where
   gone : HasGoneOn (left_in phase old.worker.work old.core) new.worker new.core
       → is_full made ≡ false → waits_for_log made ≡ false → Came phase old made new
-  told : HasAnswer new.worker → is_full made ≡ false → Came phase old made new
+  answered_now : HasAnswer new.worker → is_full made ≡ false → Came phase old made new
   reads : IsToRead old new → phase ≡ Planning → is_full made ≡ false → waits_for_log made ≡ false
       → Came phase old made new
   full : IsFull (left_in phase old.worker.work old.core) new → is_full made ≡ true → waits_for_log made ≡ true
@@ -171,7 +171,7 @@ pub data Came (phase : Phase) (old : Side) (made : Option Step) (new : Side) : T
       → waits_for_log made ≡ true → Came phase old made new
 
 -- where it goes on without the log
-goes_by : (phase : Phase) (old : Side) (made what : Step) (new : Side)
+goes_by : (phase : Phase) (old : WorkerAndCore) (made what : Step) (new : WorkerAndCore)
     → HasGoneOn (left_in phase old.worker.work old.core) new.worker new.core → made ≡ what
     → is_full (Some what) ≡ false → waits_for_log (Some what) ≡ false → Came phase old (Some made) new
 goes_by phase old made what new on is unkept none =
@@ -180,7 +180,7 @@ goes_by phase old made what new on is unkept none =
 -- ---- what was read
 
 untaken_is : (work : Work) (seen : Seen) (blocks : ℕ) → seen_in work.planner ≡ Some seen
-    → untaken work blocks ≡ most_taken blocks - (times_asked seen.objects seen.alone + length seen.claims)
+    → untaken work blocks ≡ most_taken blocks - (times_asked seen.objects seen.exclusives + length seen.claims)
 untaken_is work seen blocks seen_is = ap (λ (o : Option Seen). most_taken blocks - count_of o) seen_is
 
 untaken_within : (work : Work) (blocks : ℕ) → untaken work blocks ≤ most_taken blocks
@@ -195,7 +195,7 @@ unfolding most_taken
 all_taken times claims blocks few fewer = omega (arith, few, fewer)
 
 -- with one more that was taken less is left
-less_taken : (old new : Side) (snap : Snap) (now_seen : Seen)
+less_taken : (old new : WorkerAndCore) (snap : Snap) (now_seen : Seen)
     → seen_in old.worker.work.planner ≡ Some (seen_of snap) → seen_in new.worker.work.planner ≡ Some now_seen
     → new.core.log ≡ old.core.log
     → count_of (Some (seen_of snap)) < count_of (Some now_seen)
@@ -230,7 +230,7 @@ less_taken old new snap now_seen snap_is seen log more within =
 
 -- ---- a transaction is begun
 
-begun_so : (old new : Side) (job : Job) (number : ℕ) → HasBegun job old number new
+begun_so : (old new : WorkerAndCore) (job : Job) (number : ℕ) → HasBegun job old number new
     → HasGoneOn (left_in Called old.worker.work old.core) new.worker new.core
 begun_so old new job number has =
     nearer (left_in Called old.worker.work old.core) new.worker new.core Planning
@@ -250,23 +250,23 @@ begun_so old new job number has =
         (subst (λ n. away new.core ≤ n) (ap (λ (l : Log). l.blocks) log)
         (at_most_all (is_at_hand new.core) new.core.log.blocks))
 
-told_so : (old new : Side) → IsTold old new
+at_once_holds : (old new : WorkerAndCore) → IsAnsweredAtOnce old new
     → HasGoneOn (left_in Called old.worker.work old.core) new.worker new.core
-told_so old new is =
+at_once_holds old new is =
     answered (left_in Called old.worker.work old.core) new.worker old.worker new.core is.heard None is.worker
 
-called : (old new : Side) (made : Step) → Beginning old made new → Came Called old (Some made) new
+called : (old new : WorkerAndCore) (made : Step) → Beginning old made new → Came Called old (Some made) new
 called old new made (begun job number job_is made_is has) =
     goes_by Called old made (step.Begun (Ok number)) new (begun_so old new job number has)
     made_is refl refl
 called old new made (refused why made_is is) =
-    goes_by Called old made (step.Begun (Err why)) new (told_so old new is) made_is refl refl
+    goes_by Called old made (step.Begun (Err why)) new (at_once_holds old new is) made_is refl refl
 called old new made (replied made_is is) =
-    goes_by Called old made step.Replied new (told_so old new is) made_is refl refl
+    goes_by Called old made step.Replied new (at_once_holds old new is) made_is refl refl
 
--- ---- a wish
+-- ---- a lock request
 
-module _ (old new : Side) (addr : Addr) (mode : Mode) (job : Job) (tx : ℕ) (snap : Snap)
+module _ (old new : WorkerAndCore) (addr : Addr) (mode : Mode) (job : Job) (tx : ℕ) (snap : Snap)
     (job_is : old.worker.work.job ≡ Some job)
     (snap_is : seen_in old.worker.work.planner ≡ Some (seen_of snap))
     (has : HasOfCall tx old.core (seen_of snap))
@@ -283,18 +283,18 @@ module _ (old new : Side) (addr : Addr) (mode : Mode) (job : Job) (tx : ℕ) (sn
       now_seen : Seen
       now_seen = record (seen_of snap) {
         objects = with_read addr bytes snap.objects.items;
-        alone = with_mode addr mode snap.alone.items;
+        exclusives = with_mode addr mode snap.exclusives.items;
       }
 
       times : ℕ
-      times = times_asked now_seen.objects now_seen.alone
+      times = times_asked now_seen.objects now_seen.exclusives
 
       more : count_of (Some (seen_of snap)) < count_of (Some now_seen)
-      more = let often = asked_more addr mode bytes snap.objects.items snap.alone.items is_plan.0 in omega (arith, often)
+      more = let often = asked_more addr mode bytes snap.objects.items snap.exclusives.items is_plan.0 in omega (arith, often)
 
       within : count_of (Some now_seen) ≤ most_taken old.core.log.blocks
       within =
-          let most = few_times snap.geometry now_seen.objects now_seen.alone
+          let most = few_times snap.geometry now_seen.objects now_seen.exclusives
           (read_once snap.geometry snap.objects.items addr bytes has.were is_plan.1) in
           let fewer = few_claimed snap.geometry snap.claims.items has.claims in
           let same = has.blocks in
@@ -304,8 +304,8 @@ module _ (old new : Side) (addr : Addr) (mode : Mode) (job : Job) (tx : ℕ) (sn
       less : left_in Planning new.worker.work new.core < left
       less = less_taken old new snap now_seen snap_is (seen ∙ ap (with_object addr mode bytes) snap_is) log more within
 
-  wanted : (made : Step) → is_kept_off (Some made) ≡ false → (answer : Want)
-      → made ≡ step.Wanted addr mode (wish_of answer)
+  wanted : (made : Step) → is_deferred (Some made) ≡ false → (answer : Want)
+      → made ≡ step.Wanted addr mode (want_answer answer)
       → IsWanted old.core tx addr mode answer new.core → new.worker.phase ≡ phase_wanted addr mode answer old.worker.known
       → new.worker.begun ≡ begun_wanted answer
       → seen_in new.worker.work.planner ≡ seen_wanted [] addr mode answer (seen_in old.worker.work.planner)
@@ -330,9 +330,9 @@ module _ (old new : Side) (addr : Addr) (mode : Mode) (job : Job) (tx : ℕ) (sn
         answer = answer;
       }) refl (ap (λ m. is_full (Some m)) made_is) (ap (λ m. waits_for_log (Some m)) made_is)
   wanted made free (want.Busy back) made_is core phase got seen entry answer =
-      absurd (true≢false (sym (ap (λ m. is_kept_off (Some m)) made_is) ∙ free))
+      absurd (true≢false (sym (ap (λ m. is_deferred (Some m)) made_is) ∙ free))
   wanted made free (want.Loading back) made_is core phase got seen entry answer =
-      absurd (true≢false (sym (ap (λ m. is_kept_off (Some m)) made_is) ∙ free))
+      absurd (true≢false (sym (ap (λ m. is_deferred (Some m)) made_is) ∙ free))
   wanted made free (want.Outside back) made_is core phase got seen entry answer =
       goes_by Planning old made _ new (nearer left new.worker new.core _ phase tt (grind (arith)))
       made_is refl refl
@@ -340,9 +340,9 @@ module _ (old new : Side) (addr : Addr) (mode : Mode) (job : Job) (tx : ℕ) (sn
       goes_by Planning old made _ new (nearer left new.worker new.core _ phase tt (grind (arith)))
       made_is refl refl
 
--- ---- a wish to claim
+-- ---- a lock request to claim
 
-module _ (old new : Side) (block : BlockNo) (addr : Addr) (tx : ℕ) (snap : Snap)
+module _ (old new : WorkerAndCore) (block : BlockNo) (addr : Addr) (tx : ℕ) (snap : Snap)
     (snap_is : seen_in old.worker.work.planner ≡ Some (seen_of snap))
     (has : HasOfCall tx old.core (seen_of snap))
     (is_plan : IsPlanFor snap (plan.Claim block)) where
@@ -363,15 +363,15 @@ module _ (old new : Side) (block : BlockNo) (addr : Addr) (tx : ℕ) (snap : Sna
 
       within : count_of (Some now_seen) ≤ most_taken old.core.log.blocks
       within =
-          let most = few_times snap.geometry snap.objects.items snap.alone.items has.were in
+          let most = few_times snap.geometry snap.objects.items snap.exclusives.items has.were in
           let fewer = few_claimed snap.geometry now_seen.claims
           (one_claimed_once snap.geometry snap.claims.items block has.claims is_plan.1 is_plan.0) in
           let same = has.blocks in
-          all_taken (times_asked snap.objects.items snap.alone.items) (length now_seen.claims) old.core.log.blocks
+          all_taken (times_asked snap.objects.items snap.exclusives.items) (length now_seen.claims) old.core.log.blocks
           (omega (arith, most, same)) (omega (arith, fewer, same))
 
-  claimed : (made : Step) → is_kept_off (Some made) ≡ false → (answer : Claim)
-      → made ≡ step.Claimed block (claim_wish answer)
+  claimed : (made : Step) → is_deferred (Some made) ≡ false → (answer : Claim)
+      → made ≡ step.Claimed block (claim_answer answer)
       → IsClaimed old.core tx addr answer new.core → new.worker.phase ≡ phase_claimed block answer old.worker.known
       → seen_in new.worker.work.planner ≡ seen_claimed [] block answer (seen_in old.worker.work.planner)
       → Came Planning old (Some made) new
@@ -379,9 +379,9 @@ module _ (old new : Side) (block : BlockNo) (addr : Addr) (tx : ℕ) (snap : Sna
       goes_by Planning old made _ new (claim_held phase (ap (λ (c : CoreState). c.log) core.2.only) seen)
       made_is refl refl
   claimed made free (claim.Busy back) made_is core phase seen =
-      absurd (true≢false (sym (ap (λ m. is_kept_off (Some m)) made_is) ∙ free))
+      absurd (true≢false (sym (ap (λ m. is_deferred (Some m)) made_is) ∙ free))
   claimed made free (claim.Loading back) made_is core phase seen =
-      absurd (true≢false (sym (ap (λ m. is_kept_off (Some m)) made_is) ∙ free))
+      absurd (true≢false (sym (ap (λ m. is_deferred (Some m)) made_is) ∙ free))
   claimed made free (claim.Outside back) made_is core phase seen =
       goes_by Planning old made _ new (nearer left_to_claim new.worker new.core _ phase tt (grind (arith)))
       made_is refl refl
@@ -391,13 +391,13 @@ module _ (old new : Side) (block : BlockNo) (addr : Addr) (tx : ℕ) (snap : Sna
 
 -- ---- a commit
 
-module _ (old new : Side) (tx : ℕ) (job : Job) (done : Outcome) (job_is : old.worker.work.job ≡ Some job)
+module _ (old new : WorkerAndCore) (tx : ℕ) (job : Job) (done : Outcome) (job_is : old.worker.work.job ≡ Some job)
     (little : length (blocks_of done.written) ≤ CHANGED_BLOCKS) where
   abbrev left_then : ℕ
   left_then = left_in Planning old.worker.work old.core
 
   placed : (base : State) (place : Seq) (stable : Bool) → place.0 ≤ new.core.log.places
-      → new.worker ≡ with_entry job done.reply (told_of stable job done.reply place base)
+      → new.worker ≡ with_entry job done.reply (answered_or_waiting stable job done.reply place base)
       → HasGoneOn left_then new.worker new.core
   placed base place true within is =
       nearer left_then new.worker new.core (Waiting place) (ap (λ (s : State). s.phase) is) within
@@ -412,7 +412,7 @@ module _ (old new : Side) (tx : ℕ) (job : Job) (done : Outcome) (job_is : old.
   })
 
   full_so : new.worker.phase ≡ Planning → new.worker.work.job ≡ old.worker.work.job → new.core ≡ old.core
-      → has_room old.core.log ≡ false → IsFull left_then new
+      → has_log_space old.core.log ≡ false → IsFull left_then new
   full_so phase same core none = record {
     phase = phase;
     less = subst (λ (c : CoreState). whole_round c.log.blocks + 1 < left_then) (sym core)
@@ -432,7 +432,7 @@ module _ (old new : Side) (tx : ℕ) (job : Job) (done : Outcome) (job_is : old.
       (nearer left_then new.worker new.core (Refused why) phase tt (grind (arith))) made_is unkept none
 
   committed_so : (made : Step) (base : State) (answer : Commit Outcome) (added : List BlockNo)
-      → base.work.job ≡ old.worker.work.job → is_kept_off (Some made) ≡ false
+      → base.work.job ≡ old.worker.work.job → is_deferred (Some made) ≡ false
       → made ≡ step.Commit added (committing_of answer)
       → IsCommit old.core tx (planned_of done) done answer new.core
       → new.worker ≡ after_commit job done.reply answer base → Came Planning old (Some made) new
@@ -443,10 +443,10 @@ module _ (old new : Side) (tx : ℕ) (job : Job) (done : Outcome) (job_is : old.
   committed_so made base (commit.Full back change) added same free made_is core worker =
       full (full_so (ap (λ (s : State). s.phase) worker)
       (ap (λ (s : State). s.work.job) worker ∙ same) core.0.core
-      (no_room old.core tx (planned_of done) core.1 little)) (ap (λ m. is_full (Some m)) made_is)
+      (no_log_space old.core tx (planned_of done) core.1 little)) (ap (λ m. is_full (Some m)) made_is)
       (ap (λ m. waits_for_log (Some m)) made_is)
   committed_so made base (commit.Foreign back change) added same free made_is core worker =
-      absurd (true≢false (sym (ap (λ m. is_kept_off (Some m)) made_is) ∙ free))
+      absurd (true≢false (sym (ap (λ m. is_deferred (Some m)) made_is) ∙ free))
   committed_so made base (commit.NoMemory back change) added same free made_is core worker =
       refused_so made _ added (commit.NoMemory back change) made_is refl refl
       (ap (λ (s : State). s.phase) worker)
@@ -455,33 +455,33 @@ module _ (old new : Side) (tx : ℕ) (job : Job) (done : Outcome) (job_is : old.
   committed_so made base (commit.Spent back change) added same free made_is core worker =
       refused_so made _ added (commit.Spent back change) made_is refl refl (ap (λ (s : State). s.phase) worker)
 
-lacked_so : (old new : Side) (tx : ℕ) (made : Step) → HasLacked tx old made new
+lacked_so : (old new : WorkerAndCore) (tx : ℕ) (made : Step) → HasLacked tx old made new
     → Came Planning old (Some made) new
 lacked_so old new tx made has =
     goes_by Planning old made _ new (answered (left_in Planning old.worker.work old.core) new.worker
     (record (with_snap new.worker old.worker) { begun = none_begun }) new.core verdict.NoMemory None has.worker)
     has.made_is refl refl
 
-goes : (old new : Side) (tx : ℕ) (made : Step) (next : Plan) → old.worker.begun.tx ≡ Some tx
+goes : (old new : WorkerAndCore) (tx : ℕ) (made : Step) (next : Plan) → old.worker.begun.tx ≡ Some tx
     → old.worker.known.left ≡ [] → IsNext old.worker next
-    → HasTaken old.worker old.core → is_kept_off (Some made) ≡ false → GoesByNext next tx old made new
+    → HasTaken old.worker old.core → is_deferred (Some made) ≡ false → GoesByNext next tx old made new
     → Came Planning old (Some made) new
 goes old new tx made next tx_is none is taken free goes_so = of_next next is.plan goes_so
   where
     of_next : (next : Plan) → IsPlanFor is.snap next → GoesByNext next tx old made new
         → Came Planning old (Some made) new
-    of_next (plan.Need addr mode) planned wish =
+    of_next (plan.Need addr mode) planned lock_answer =
         wanted old new addr mode is.job tx is.snap is.job_is is.snap_is
         (has_of old.worker old.core is.job tx (seen_of is.snap) is.job_is tx_is is.snap_is taken) planned
-        (ap (λ (s : State). s.work.job) wish.worker) made free wish.answer wish.made_is wish.core
-        (ap (λ (s : State). s.phase) wish.worker) (ap (λ (s : State). s.begun) wish.worker)
-        (wish.seen ∙ ap (λ (left : List Aim). seen_wanted left addr mode wish.answer (seen_in old.worker.work.planner)) none)
-        (ap (λ (s : State). s.work.entry) wish.worker) (ap (λ (s : State). s.work.answer) wish.worker)
-    of_next (plan.Claim block) planned wish =
-        claimed old new block wish.core.0 tx is.snap is.snap_is
+        (ap (λ (s : State). s.work.job) lock_answer.worker) made free lock_answer.answer lock_answer.made_is lock_answer.core
+        (ap (λ (s : State). s.phase) lock_answer.worker) (ap (λ (s : State). s.begun) lock_answer.worker)
+        (lock_answer.seen ∙ ap (λ (left : List LockRequest). seen_wanted left addr mode lock_answer.answer (seen_in old.worker.work.planner)) none)
+        (ap (λ (s : State). s.work.entry) lock_answer.worker) (ap (λ (s : State). s.work.answer) lock_answer.worker)
+    of_next (plan.Claim block) planned lock_answer =
+        claimed old new block lock_answer.core.0 tx is.snap is.snap_is
         (has_of old.worker old.core is.job tx (seen_of is.snap) is.job_is tx_is is.snap_is taken) planned
-        made free wish.answer wish.made_is wish.core.2 (ap (λ (s : State). s.phase) wish.worker)
-        (wish.seen ∙ ap (λ (left : List Aim). seen_claimed left block wish.answer (seen_in old.worker.work.planner)) none)
+        made free lock_answer.answer lock_answer.made_is lock_answer.core.2 (ap (λ (s : State). s.phase) lock_answer.worker)
+        (lock_answer.seen ∙ ap (λ (left : List LockRequest). seen_claimed left block lock_answer.answer (seen_in old.worker.work.planner)) none)
     of_next (plan.Done done) planned end = elim (ending old new tx done made end) [
       | lacked has ↦ lacked_so old new tx made has
       | committed job job_is has ↦
@@ -493,17 +493,17 @@ goes old new tx made next tx_is none is taken free goes_so = of_next next is.pla
 
 -- ---- any step
 
-waited : (old new : Side) (place : Seq) (made : Step) → place.0 ≤ old.core.log.places → Waits place old made new
+waited : (old new : WorkerAndCore) (place : Seq) (made : Step) → place.0 ≤ old.core.log.places → Waits place old made new
     → Came (Waiting place) old (Some made) new
 waited old new place made within has =
-    by has.settled has.settled_is has.made_is old.core.log.broken refl has.told
+    by has.settled has.settled_is has.made_is old.core.log.broken refl has.is_reply_sent
   where
-    room_is : (settled : Bool) → made ≡ step.Stable place settled → is_full (Some made) ≡ false
-    room_is settled is = ap (λ m. is_full (Some m)) is
+    never_full : (settled : Bool) → made ≡ step.Stable place settled → is_full (Some made) ≡ false
+    never_full settled is = ap (λ m. is_full (Some m)) is
 
-    told_so : (heard : Verdict) (base : State) → new.worker ≡ with_answer heard (Some place) base
+    at_once_holds : (heard : Verdict) (base : State) → new.worker ≡ with_answer heard (Some place) base
         → HasAnswer new.worker
-    told_so heard base is = record {
+    at_once_holds heard base is = record {
       idle = ap (λ (s : State). s.phase) is;
       there = ap (λ (s : State). is_some s.work.answer) is;
     }
@@ -512,24 +512,24 @@ waited old new place made within has =
         → IsSomeAnd o (λ reply. new.worker ≡ with_answer (verdict.Reply reply) (Some place) base)
         → HasAnswer new.worker
     reply None base has = absurd has
-    reply (Some r) base has = told_so (verdict.Reply r) base has
+    reply (Some r) base has = at_once_holds (verdict.Reply r) base has
 
     by : (settled : Bool) → (IsTrue settled ↔ (place.0 ≤ settled_place old.core.log))
         → made ≡ step.Stable place settled
         → (broken : Bool) → old.core.log.broken ≡ broken → IsHeard settled broken place old.worker new.worker
         → Came (Waiting place) old (Some made) new
-    by true is made_is broken at has = told (reply old.worker.work.reply
-        (record old.worker { work = record old.worker.work { reply = None } }) has) (room_is true made_is)
-    by false is made_is true at has = told (reply old.worker.work.broken_reply
+    by true is made_is broken at has = answered_now (reply old.worker.work.reply
+        (record old.worker { work = record old.worker.work { reply = None } }) has) (never_full true made_is)
+    by false is made_is true at has = answered_now (reply old.worker.work.broken_reply
         (record old.worker { work = record old.worker.work { broken_reply = None } }) has)
-        (room_is false made_is)
+        (never_full false made_is)
     by false is made_is false at same =
         waits place refl (record {
           same = same;
           unsettled = unsettled (nat_le place.0 (settled_place old.core.log)) refl;
           sound = at;
           within = subst (λ (c : CoreState). place.0 ≤ c.log.places) (sym has.core) within;
-        }) (room_is false made_is) (ap (λ m. waits_for_log (Some m)) made_is)
+        }) (never_full false made_is) (ap (λ m. waits_for_log (Some m)) made_is)
       where
         unsettled : (there : Bool) → nat_le place.0 (settled_place old.core.log) ≡ there → there ≡ false
         unsettled false test = refl
@@ -537,7 +537,7 @@ waited old new place made within has =
             let here : place.0 ≤ settled_place old.core.log = grind (arith, nat_tests) in
             absurd (true≢false (sym (is.1 here)))
 
-refuses : (old new : Side) (why : Cause) (made : Step) → Refuses why old made new
+refuses : (old new : WorkerAndCore) (why : Cause) (made : Step) → Refuses why old made new
     → Came (Refused why) old (Some made) new
 refuses old new why made has = by_job old.worker.work.job old.worker.begun.tx has
   where
@@ -552,7 +552,7 @@ refuses old new why made has = by_job old.worker.work.job old.worker.begun.tx ha
         (record old.worker { begun = none_begun }) new.core (refusal job.call why) None has.worker)
         has.made_is refl refl
 
-again : (old new : Side) (made : Step) → BeginsAgain old made new → Came Again old (Some made) new
+again : (old new : WorkerAndCore) (made : Step) → BeginsAgain old made new → Came Again old (Some made) new
 again old new made has = by old.worker.begun.tx has
   where
     by : (tx : Option ℕ) → IsSomeAnd tx (λ tx. HasLeft tx old made new) → Came Again old (Some made) new
@@ -568,8 +568,8 @@ again old new made has = by old.worker.begun.tx has
         less = subst (λ (l : Log). rounds_left l + whole_round l.blocks < left_in Again old.worker.work old.core)
             (sym log) (grind (arith))
 
-pub stepped : (phase : Phase) (old new : Side) (made : Option Step) → IsUnder phase old.core
-    → PlansAlone phase old.worker old.core → LeavesNothing phase old.worker.known → is_kept_off made ≡ false
+pub stepped : (phase : Phase) (old new : WorkerAndCore) (made : Option Step) → IsUnder phase old.core
+    → HasTakenInPlan phase old.worker old.core → LeavesNothing phase old.worker.known → is_deferred made ≡ false
     → GoesOn phase old made new → Came phase old made new
 stepped Idle old new made under plans left free has = absurd under
 stepped Reading old new made under plans left free has = absurd under
@@ -590,9 +590,9 @@ stepped (Waiting place) old new None under plans left free has = absurd has
 
 -- ---- a read, given back
 
-given : (old mid new : Side) (is : IsToRead old mid) (read : State) (back : Fetch) (made : Step)
+given : (old mid new : WorkerAndCore) (is : IsToRead old mid) (read : State) (back : Fetch) (made : Step)
     → back.block ≡ is.io.block → read.work ≡ mid.worker.work → (ok : Bool)
-    → HasGivenBack ok back (side read mid.core) made new
+    → HasGivenBack ok back (worker_and_core read mid.core) made new
     → HasGoneOn (left_in Planning old.worker.work old.core) new.worker new.core
 given old mid new is read back made same work false has =
     nearer (left_in Planning old.worker.work old.core) new.worker new.core _
@@ -624,25 +624,25 @@ given old mid new is read back made same work true has =
         has.leaves blocks is.within in
         subst (λ n. n < left) (sym now) (grind (arith))
 
-pub given_on : (old mid new : Side) (is : IsToRead old mid) (read : State) (back : Fetch) (ok : Bool)
+pub given_on : (old mid new : WorkerAndCore) (is : IsToRead old mid) (read : State) (back : Fetch) (ok : Bool)
     (made : Option Step) → back.block ≡ is.io.block → read.work ≡ mid.worker.work → read.phase ≡ Read ok
-    → read.begun.io ≡ Some back → GoesOn read.phase (side read mid.core) made new
+    → read.begun.io ≡ Some back → GoesOn read.phase (worker_and_core read mid.core) made new
     → HasGoneOn (left_in Planning old.worker.work old.core) new.worker new.core
 given_on old mid new is read back ok made same work phase io later =
-    by made (subst (λ p. GoesOn p (side read mid.core) made new) phase later)
+    by made (subst (λ p. GoesOn p (worker_and_core read mid.core) made new) phase later)
   where
-    by : (made : Option Step) → GoesOn (Read ok) (side read mid.core) made new
+    by : (made : Option Step) → GoesOn (Read ok) (worker_and_core read mid.core) made new
         → HasGoneOn (left_in Planning old.worker.work old.core) new.worker new.core
     by None has = absurd has
     by (Some made) has = given old mid new is read back made same work ok
         (subst (λ (o : Option Fetch). IsSomeAnd o
-        (λ io. HasGivenBack ok io (side read mid.core) made new)) io has)
+        (λ io. HasGivenBack ok io (worker_and_core read mid.core) made new)) io has)
 
-pub read_on : (old mid : Side) (is : IsToRead old mid) (keeps : Type 0) (before after : Device) (told : Step)
-    (read : State) (made : Option Step) (new : Side) → HasReadBlock keeps before mid.worker told after read
-    → GoesOn read.phase (side read mid.core) made new
+pub read_on : (old mid : WorkerAndCore) (is : IsToRead old mid) (preserves : Type 0) (before after : Device) (step_seen : Step)
+    (read : State) (made : Option Step) (new : WorkerAndCore) → HasReadBlock preserves before mid.worker step_seen after read
+    → GoesOn read.phase (worker_and_core read mid.core) made new
     → HasGoneOn (left_in Planning old.worker.work old.core) new.worker new.core
-read_on old mid is keeps before after heard read made new has later =
+read_on old mid is preserves before after heard read made new has later =
     given_on old mid new is read (record { block = has.io.block; content = has.content })
     (is_ok has.answer) made
     (ap (λ (f : Fetch). f.block) same) (ap (λ (s : State). s.work) has.worker)
@@ -680,12 +680,12 @@ pub record AfterLog (waited : Bool) (mid core : CoreState) : Type 0 where
   pub blocks : core.log.blocks ≡ mid.log.blocks
   pub places : core.log.places ≡ mid.log.places
   pub out : core.out ≡ mid.out
-  pub fetches : KeepsFetches mid core
+  pub fetches : PreservesFetches mid core
   pub same : waited ≡ false → core ≡ mid
   pub done : waited ≡ true → (settled_place core.log ≡ core.log.places) ⊎ (core.log.broken ≡ true)
 
 pub after_settling : (waited : Bool) (mid core new : CoreState) (result : Result Unit Failed) → waited ≡ true
-    → core ≡ new → SameFrame mid new → SameNumbers mid new → new.out ≡ mid.out → KeepsFetches mid new
+    → core ≡ new → SameFrame mid new → SameNumbers mid new → new.out ≡ mid.out → PreservesFetches mid new
     → OnOk result (IsSettled new) → OnErr result (new.log.broken ≡ true) → AfterLog waited mid core
 after_settling waited mid core new result was is frame numbers out fetches settled broken =
     subst (λ c. AfterLog waited mid c) (sym is) (record {
@@ -707,7 +707,7 @@ after_none waited mid core was is = subst (λ c. AfterLog waited mid c) (sym is)
   done = λ other. absurd (not_both waited other was);
 })
 
-module _ (phase : Phase) (old : Side) (made : Option Step) (mid : Side) (at : old.worker.phase ≡ phase)
+module _ (phase : Phase) (old : WorkerAndCore) (made : Option Step) (mid : WorkerAndCore) (at : old.worker.phase ≡ phase)
     (came : Came phase old made mid) where
   abbrev most : ℕ
   most = left_in phase old.worker.work old.core
@@ -718,24 +718,24 @@ module _ (phase : Phase) (old : Side) (made : Option Step) (mid : Side) (at : ol
     where
       by : Came phase old made mid → HasGoneOn most mid.worker mid.core
       by (gone on unkept none) = on
-      by (told is unkept) = inl is
+      by (answered_now is unkept) = inl is
       by (reads is planning unkept none) = absurd (idle is.phase)
       by (full is so_it_is log_is) = absurd (not_both (is_full made) so_it_is off)
       by (waits place is so unkept so_it_is) = absurd (not_both (waits_for_log made) so_it_is log)
 
   pub reads_on : is_full made ≡ false → mid.worker.phase ≡ Reading → (core : CoreState)
-      → (waits_for_log made ≡ false → core ≡ mid.core) → (keeps : Type 0) (before after : Device) (step : Step)
-      (read : State) (last : Option Step) (new : Side) → HasReadBlock keeps before mid.worker step after read
-      → GoesOn read.phase (side read core) last new → HasGoneOn most new.worker new.core
-  reads_on off reading core same keeps before after step read last new has later = by came
+      → (waits_for_log made ≡ false → core ≡ mid.core) → (preserves : Type 0) (before after : Device) (step : Step)
+      (read : State) (last : Option Step) (new : WorkerAndCore) → HasReadBlock preserves before mid.worker step after read
+      → GoesOn read.phase (worker_and_core read core) last new → HasGoneOn most new.worker new.core
+  reads_on off reading core same preserves before after step read last new has later = by came
     where
       by : Came phase old made mid → HasGoneOn most new.worker new.core
       by (gone on unkept none) = absurd (no_read most mid.worker mid.core reading on)
-      by (told is unkept) = absurd (no_read most mid.worker mid.core reading (inl is))
+      by (answered_now is unkept) = absurd (no_read most mid.worker mid.core reading (inl is))
       by (reads is planning unkept none) =
           subst (λ p. HasGoneOn (left_in p old.worker.work old.core) new.worker new.core) (sym planning)
-          (read_on old mid is keeps before after step read last new has
-          (subst (λ c. GoesOn read.phase (side read c) last new) (same none) later))
+          (read_on old mid is preserves before after step read last new has
+          (subst (λ c. GoesOn read.phase (worker_and_core read c) last new) (same none) later))
       by (full is so_it_is log_is) = absurd (not_both (is_full made) so_it_is off)
       by (waits place is so unkept so_it_is) =
           absurd (waiting (sym is ∙ sym at ∙ sym (ap (λ (s : State). s.phase) so.same) ∙ reading))
@@ -751,7 +751,7 @@ module _ (phase : Phase) (old : Side) (made : Option Step) (mid : Side) (at : ol
       by : Came phase old made mid
           → (mid.worker.work.entry ≡ old.worker.work.entry) × (mid.worker.work.answer ≡ old.worker.work.answer)
       by (gone on unkept none) = absurd (no_read most mid.worker mid.core reading on)
-      by (told is unkept) = absurd (no_read most mid.worker mid.core reading (inl is))
+      by (answered_now is unkept) = absurd (no_read most mid.worker mid.core reading (inl is))
       by (reads is planning unkept none) = (is.entry, is.answer)
       by (full is so_it_is log_is) = absurd (not_both (is_full made) so_it_is off)
       by (waits place is so unkept so_it_is) =
@@ -762,12 +762,12 @@ module _ (phase : Phase) (old : Side) (made : Option Step) (mid : Side) (at : ol
 
   pub begins_again : is_full made ≡ true → (state : State) (core : CoreState)
       → (mid.worker.phase ≡ Planning → state ≡ record mid.worker { phase = Again; known = nothing_known })
-      → has_room core.log ≡ true → core.log.blocks ≡ mid.core.log.blocks → HasGoneOn most state core
-  begins_again off state core set room blocks = by came
+      → has_log_space core.log ≡ true → core.log.blocks ≡ mid.core.log.blocks → HasGoneOn most state core
+  begins_again off state core set has_space blocks = by came
     where
       by : Came phase old made mid → HasGoneOn most state core
       by (gone on unkept none) = absurd (not_both (is_full made) off unkept)
-      by (told is unkept) = absurd (not_both (is_full made) off unkept)
+      by (answered_now is unkept) = absurd (not_both (is_full made) off unkept)
       by (reads is planning unkept none) = absurd (not_both (is_full made) off unkept)
       by (waits place is so unkept so_it_is) = absurd (not_both (is_full made) off unkept)
       by (full is so_it_is log_is) =
@@ -778,7 +778,7 @@ module _ (phase : Phase) (old : Side) (made : Option Step) (mid : Side) (at : ol
           whole = ap whole_round blocks
 
           now : left_in Again state.work core ≡ whole_round mid.core.log.blocks + 1
-          now = ap (λ b. (if b then 0 else whole_round core.log.blocks) + (whole_round core.log.blocks + 1)) room
+          now = ap (λ b. (if b then 0 else whole_round core.log.blocks) + (whole_round core.log.blocks + 1)) has_space
               ∙ none_more (whole_round core.log.blocks) (whole_round mid.core.log.blocks) whole
             where
               none_more : (a b : ℕ) → a ≡ b → 0 + (a + 1) ≡ b + 1
@@ -790,7 +790,7 @@ module _ (phase : Phase) (old : Side) (made : Option Step) (mid : Side) (at : ol
     where
       by : Came phase old made mid → waits_for_log made ≡ true
       by (gone on unkept none) = absurd (not_both (is_full made) off unkept)
-      by (told is unkept) = absurd (not_both (is_full made) off unkept)
+      by (answered_now is unkept) = absurd (not_both (is_full made) off unkept)
       by (reads is planning unkept none) = absurd (not_both (is_full made) off unkept)
       by (waits place is so unkept so_it_is) = absurd (not_both (is_full made) off unkept)
       by (full is so_it_is log_is) = log_is
@@ -800,23 +800,23 @@ module _ (phase : Phase) (old : Side) (made : Option Step) (mid : Side) (at : ol
     where
       by : Came phase old made mid → mid.worker.phase ≡ Planning
       by (gone on unkept none) = absurd (not_both (is_full made) off unkept)
-      by (told is unkept) = absurd (not_both (is_full made) off unkept)
+      by (answered_now is unkept) = absurd (not_both (is_full made) off unkept)
       by (reads is planning unkept none) = absurd (not_both (is_full made) off unkept)
       by (waits place is so unkept so_it_is) = absurd (not_both (is_full made) off unkept)
       by (full is so_it_is log_is) = is.phase
 
   -- and nothing where it waits for its place
   pub waits_unplanned : is_full made ≡ false → waits_for_log made ≡ true → (worker : State) (core : CoreState)
-      → PlansAlone mid.worker.phase worker core
+      → HasTakenInPlan mid.worker.phase worker core
   waits_unplanned off log worker core = by came
     where
-      by : Came phase old made mid → PlansAlone mid.worker.phase worker core
+      by : Came phase old made mid → HasTakenInPlan mid.worker.phase worker core
       by (gone on unkept none) = absurd (not_both (waits_for_log made) log none)
-      by (told is unkept) = subst (λ p. PlansAlone p worker core) (sym is.idle) tt
+      by (answered_now is unkept) = subst (λ p. HasTakenInPlan p worker core) (sym is.idle) tt
       by (reads is planning unkept none) = absurd (not_both (waits_for_log made) log none)
       by (full is so_it_is log_is) = absurd (not_both (is_full made) so_it_is off)
       by (waits place is so unkept so_it_is) =
-          subst (λ p. PlansAlone p worker core) (sym (ap (λ (s : State). s.phase) so.same ∙ at ∙ is)) tt
+          subst (λ p. HasTakenInPlan p worker core) (sym (ap (λ (s : State). s.phase) so.same ∙ at ∙ is)) tt
 
   pub settles : is_full made ≡ false → waits_for_log made ≡ true → (core : CoreState)
       → core.log.places ≡ mid.core.log.places
@@ -825,7 +825,7 @@ module _ (phase : Phase) (old : Side) (made : Option Step) (mid : Side) (at : ol
     where
       by : Came phase old made mid → HasGoneOn most mid.worker core
       by (gone on unkept none) = absurd (not_both (waits_for_log made) log none)
-      by (told is unkept) = inl is
+      by (answered_now is unkept) = inl is
       by (reads is planning unkept none) = absurd (not_both (waits_for_log made) log none)
       by (full is so_it_is log_is) = absurd (not_both (is_full made) so_it_is off)
       by (waits place is so unkept so_it_is) =
@@ -892,7 +892,7 @@ left_same (Waiting place) work core = refl
 
 goes_round : (bound : ℕ) (mid new : State) (core : CoreState) (result : Option CallAnswer)
     → HasGoneOn bound mid core
-    → result ≡ mid.work.answer → result ≡ None → new ≡ telling.told mid → IsNearer bound new core
+    → result ≡ mid.work.answer → result ≡ None → new ≡ run_reports.reported mid → IsNearer bound new core
 goes_round bound mid new core result (inl heard) is none same =
     absurd (true≢false (sym heard.there ∙ ap (λ (o : Option CallAnswer). is_some o) (sym is ∙ none)))
 goes_round bound mid new core result (inr on) is none same =
@@ -902,13 +902,13 @@ goes_round bound mid new core result (inr on) is none same =
     })
 
 pub still_under_way : (bound : ℕ) (mid new : State) (core : CoreState) (result : Option CallAnswer)
-    → HasGoneOn bound mid core → result ≡ mid.work.answer → result ≡ None → new ≡ telling.told mid
+    → HasGoneOn bound mid core → result ≡ mid.work.answer → result ≡ None → new ≡ run_reports.reported mid
     → IsUnderWay new core
 still_under_way bound mid new core result on is none same =
     (goes_round bound mid new core result on is none same).under_way
 
 pub less_is_left : (bound : ℕ) (mid new : State) (core : CoreState) (result : Option CallAnswer)
-    → HasGoneOn bound mid core → result ≡ mid.work.answer → result ≡ None → new ≡ telling.told mid
+    → HasGoneOn bound mid core → result ≡ mid.work.answer → result ≡ None → new ≡ run_reports.reported mid
     → steps_left new core < bound
 less_is_left bound mid new core result on is none same =
     (goes_round bound mid new core result on is none same).less

@@ -4,7 +4,7 @@ pub mod CallStages
 pub mod CallSteps
 pub mod CallWaits
 pub mod Driven
-pub mod DrivenAlone
-pub mod LogRoom
+pub mod DrivenSingle
+pub mod LogSpace
 pub mod RefusedChanges
 pub mod RunsLemmas

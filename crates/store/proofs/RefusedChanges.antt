@@ -26,7 +26,7 @@ use Rattle.txn_law.specs.Group.{blocks_of}
 use Rattle.txn_law.specs.Window.{with_objects}
 use Rattle.circ.specs.Log.Calls.{idle}
 use Rattle.circ.specs.Log.Log.{added_blocks}
-use Rattle.circ.specs.declared.log.outcomes.Room.TheVariants as room
+use Rattle.circ.specs.declared.log.outcomes.Room.TheVariants as log_space
 use Rattle.store_promise.specs.History.{ctx_of}
 use Rattle.store_promise.specs.OpenSince.{IsOpenSince, file_blocks}
 use Rattle.store_promise.specs.Progress.{Begun, Job, At}
@@ -38,14 +38,14 @@ use Rattle.store_promise.proofs.FileBlocks.{held_now, stands_now}
 use Rattle.store_workers.specs.Seen.{seen_in}
 use Rattle.store_workers.specs.Stages.{IsJobIn, StandsAt, at_stage, begun_of, handed, progress_in, progress_of}
 use Rattle.store_workers.specs.WorkerAnswers.{committing_of}
-use Rattle.store_workers.specs.WorkerSteps.{GoesOn, IsNext, Side, given_step, planned_of, side}
+use Rattle.store_workers.specs.WorkerSteps.{GoesOn, IsNext, WorkerAndCore, given_step, planned_of, worker_and_core}
 use Rattle.store_workers.specs.declared.workers.parts.Job.{Job as WorkJob}
 use Rattle.store_workers.specs.declared.workers.parts.Phase as phases
 use Rattle.store_workers.specs.declared.workers.parts.Phase.TheVariants as Phase
 use Rattle.store_workers.specs.declared.workers.parts.State.{State}
 use Rattle.store_workers.proofs.WorkCases.{Cases, by_cases}
 use Rattle.store.proofs.RunsLemmas.AtWorkStays.{some_of}
-use Rattle.store.specs.Calling.{ComesTo, FindsNoRoom, IsAfter, IsCalling, IsPlannedFor, IsSoFar, Outset}
+use Rattle.store.specs.Calling.{ComesTo, FindsNoLogSpace, IsAfter, IsCalling, IsPlannedFor, IsAtStage, Outset}
 use Rattle.store.specs.Calling.{StandsWith}
 use Rattle.store_images.specs.Opening.{Opened}
 
@@ -57,14 +57,14 @@ is_spent (Some (step.Commit added committing.Spent)) = true
 is_spent _ = false
 
 -- what the worker's plan is done with found no room
-pub record FindsNone (old : Side) : Type 0 where
+pub record FindsNone (old : WorkerAndCore) : Type 0 where
   pub planning : old.worker.phase ≡ Phase.Planning
   pub tx : ℕ
   pub done : Outcome
   pub next : IsNext old.worker (plan.Done done)
-  pub tried : IsTried old.core tx (planned_of done) room.Spent
+  pub tried : IsTried old.core tx (planned_of done) log_space.Spent
 
-module _ (old new : Side) where
+module _ (old new : WorkerAndCore) where
   abbrev FindsIn : phases.Phase → Option Step → Type 0
   FindsIn phase made = old.worker.phase ≡ phase → is_spent made ≡ true → FindsNone old
 
@@ -107,7 +107,7 @@ module _ (old new : Side) where
 
 module _ (o : Outset) (now : Opened) (worker : State) (calling : IsCalling o now worker)
     (one_geometry : (g h : Geometry) → g.version ≡ h.version → g.blocks ≡ h.blocks → g.inodes ≡ h.inodes → g ≡ h)
-    (none : FindsNone (side worker now.core)) where
+    (none : FindsNone (worker_and_core worker now.core)) where
   abbrev job : WorkJob
   job = none.next.job
 
@@ -119,7 +119,7 @@ module _ (o : Outset) (now : Opened) (worker : State) (calling : IsCalling o now
       ∙ ap (λ (found : Option WorkJob). at_stage found (how.Planning begun)) none.next.job_is
 
   so_far : (handed job ≡ o.asked) × StandsWith o calling.entry now (how.Planning begun)
-  so_far = subst (IsSoFar o calling.entry now) progress_is calling.so_far
+  so_far = subst (IsAtStage o calling.entry now) progress_is calling.so_far
 
   runs : IsJobIn o.store.boot worker.begun.tx job
   runs = some_of (IsJobIn o.store.boot worker.begun.tx) worker.work.job job none.next.job_is
@@ -181,9 +181,9 @@ module _ (o : Outset) (now : Opened) (worker : State) (calling : IsCalling o now
   is_step = subst (λ (c : Ctx). IsStepOf none.next.snap.geometry c o.asked.call none.done) ctx_is
       (subst (λ (call : Call). IsStepOf none.next.snap.geometry job.ctx call none.done) call_is none.next.is_step)
 
-  led : (next : Tree) × procedures.step o.last ctx o.asked.call none.done.reply next
+  transition : (next : Tree) × procedures.step o.last ctx o.asked.call none.done.reply next
       × Stands none.next.snap.geometry (with_objects blocks none.done.written) next
-  led = is_step blocks o.last sound stands read
+  transition = is_step blocks o.last sound stands read
 
   planned : IsPlannedFor o now none.done
   planned = record {
@@ -196,14 +196,14 @@ module _ (o : Outset) (now : Opened) (worker : State) (calling : IsCalling o now
     few = none.next.plan.1;
     read = read;
     is_step = is_step;
-    next = led.0;
-    goes = led.1;
-    leaves = led.2;
+    next = transition.0;
+    goes = transition.1;
+    leaves = transition.2;
   }
 
-  pub no_room : (later : Opened) → IsAfter now later
-      → FindsNoRoom o later (added_blocks now.core.log (blocks_of none.done.written))
-  no_room later after = record {
+  pub no_log_space : (later : Opened) → IsAfter now later
+      → FindsNoLogSpace o later (added_blocks now.core.log (blocks_of none.done.written))
+  no_log_space later after = record {
     at = now;
     since = record {
       past = calling.past;
@@ -215,6 +215,6 @@ module _ (o : Outset) (now : Opened) (worker : State) (calling : IsCalling o now
     sound = none.tried.sound;
     done = none.done;
     planned = planned;
-    none = none.tried.room;
+    none = none.tried.log_space;
     lacked = refl;
   }

@@ -2,7 +2,7 @@
 use Rattle.std.specs.Prelude.{◌≡◌, ℕ, ◌+◌, ◌^◌, ◌<◌, ◌≤◌, ◌⊎◌, true, false, Option, Some, None, IfSome, is_some}
 use Rattle.std.specs.Prelude.{Bool, List, [], ◌++◌, All, length, option_to_list}
 use Rattle.std.proofs.Common.{inl, inr}
-use Rattle.base.specs.declared.TheConstants.{CHANGED_BLOCKS, MOST_KEPT_COMMITS}
+use Rattle.base.specs.declared.TheConstants.{CHANGED_BLOCKS, MOST_UNINSTALLED_COMMITS}
 use Rattle.disk.specs.Crash.{Image, IsCrashImage}
 use Rattle.disk.specs.Device.{Device}
 use Rattle.nfs_spec.specs.Model.Entry.{Entry}
@@ -26,7 +26,7 @@ use Rattle.circ.specs.Log.Calls.{idle}
 use Rattle.circ.specs.Log.Log.{added_blocks, settled_place}
 use Rattle.circ.specs.Log.Room.{HasPlaces}
 use Rattle.store_promise.specs.History.{ctx_of}
-use Rattle.store_promise.specs.OpenSince.{HasKeptFiles, IsOpenSince, KeepsFiles, LeavesBeginning, file_blocks}
+use Rattle.store_promise.specs.OpenSince.{HasPreservedFiles, IsOpenSince, PreservesFiles, LeavesBeginning, file_blocks}
 use Rattle.store_promise.specs.Openings.{IsLater, LeavesImages}
 use Rattle.procs.specs.Finished.{ChangesFew, EndsFrom}
 use Rattle.procs.specs.Outcome.{Outcome}
@@ -35,7 +35,7 @@ use Rattle.procs.specs.Steps.{IsStepOf}
 use Rattle.store_promise.specs.Progress.{Begun, Job, Progress, Stage, At, Idle, Called, Planning, Reading, Read}
 use Rattle.store_promise.specs.Progress.{Refused, Again, Waiting, is_idle}
 use Rattle.store_promise.specs.Running.{IsFetchOver}
-use Rattle.store_promise.specs.ToldOf.{StandsAtHome}
+use Rattle.store_promise.specs.LogStateOf.{StandsAtHome}
 use Rattle.store_promise.specs.Verdicts.{refusal}
 use Rattle.store_promise.specs.declared.answers.Verdict.{Verdict}
 use Rattle.store_promise.specs.declared.answers.Verdict.TheVariants as verdict
@@ -47,7 +47,7 @@ use Rattle.store_images.specs.Opening.{Opened}
 use Rattle.store_images.specs.Settling.{HasBroken, HasFailed}
 use Rattle.store_images.specs.SettlingStops.{StayOpen}
 use Rattle.store_workers.specs.Stages.{IsWorkerAt, progress_of}
-use Rattle.store_workers.specs.Telling.{told}
+use Rattle.store_workers.specs.RunReports.{reported}
 use Rattle.store_workers.specs.declared.workers.parts.State.{State}
 
 -- ---- an open store
@@ -137,7 +137,7 @@ pub record IsPlannedFor (o : Outset) (at : Opened) (done : Outcome) : Type 0 whe
 
 -- The change of the call was refused, at a moment of the call at which the store wasn't broken: no place was left,
 -- or too few log positions for the blocks that it changes and that the tail of the log lacked. These are so many.
-pub record FindsNoRoom (o : Outset) (now : Opened) (added : ℕ) : Type 0 where
+pub record FindsNoLogSpace (o : Outset) (now : Opened) (added : ℕ) : Type 0 where
   pub at : Opened
   pub since : GoesTo o.store at
   pub until : IsAfter at now
@@ -156,50 +156,50 @@ pub record FindsNoNumber (o : Outset) (now : Opened) : Type 0 where
 -- no room for the change of this call, which lacks so many blocks of the log's tail; or memory was refused
 abbrev pub HasCause : Outset → Opened → ℕ → Cause → Type 0
 HasCause o now added cause.Io = HasFailed o.store.core.log o.store.device now.device
-HasCause o now added cause.Spent = FindsNoNumber o now ⊎ FindsNoRoom o now added
+HasCause o now added cause.Spent = FindsNoNumber o now ⊎ FindsNoLogSpace o now added
 HasCause o now added cause.NoMemory = Unit {0}
 
 -- ---- what it answers
 
 -- the reply of its procedure, once the place is settled where the call is to be answered so
-pub record IsReplyOf (o : Outset) (entry : Entry) (told : Verdict) (now : Opened) : Type 0 where
-  pub told_is : told ≡ verdict.Reply entry.reply
+pub record IsReplyOf (o : Outset) (entry : Entry) (given_verdict : Verdict) (now : Opened) : Type 0 where
+  pub verdict_is_reply : given_verdict ≡ verdict.Reply entry.reply
   pub settled : is_answered_stable o.asked.call ≡ true → length o.entries + 1 ≤ settled_place now.core.log
 
 -- IO in its stead, where the store broke before
-pub record IsUnsettled (o : Outset) (told : Verdict) (now : Opened) : Type 0 where
+pub record IsUnsettled (o : Outset) (given_verdict : Verdict) (now : Opened) : Type 0 where
   pub stable : is_answered_stable o.asked.call ≡ true
-  pub told_is : told ≡ verdict.Reply (refused status.Io o.asked.call)
+  pub verdict_is_reply : given_verdict ≡ verdict.Reply (refused status.Io o.asked.call)
   pub broken : now.core.log.broken ≡ true
   pub failed : HasBroken o.store.core.log o.store.device now.device
 
 -- That it is NULL: no transaction was begun for it, and the store is as it was, but that it is settled where it
 -- kept too many commits.
-pub record IsOfNull (o : Outset) (told : Verdict) (now : Opened) : Type 0 where
+pub record IsOfNull (o : Outset) (given_verdict : Verdict) (now : Opened) : Type 0 where
   pub begins : begins_transaction o.asked.call ≡ false
   pub begun : now.core.begun ≡ o.store.core.begun
-  pub left : length o.store.core.records ≤ MOST_KEPT_COMMITS → now ≡ o.store
-  pub told_is : told ≡ verdict.Reply Null
+  pub left : length o.store.core.records ≤ MOST_UNINSTALLED_COMMITS → now ≡ o.store
+  pub verdict_is_reply : given_verdict ≡ verdict.Reply Null
 
 -- that it was refused, for a cause, though it begins transactions
-pub record IsRefusal (o : Outset) (told : Verdict) (now : Opened) : Type 0 where
+pub record IsRefusal (o : Outset) (given_verdict : Verdict) (now : Opened) : Type 0 where
   pub begins : begins_transaction o.asked.call ≡ true
   pub why : Cause
-  pub told_is : told ≡ refusal o.asked.call why
+  pub verdict_is_reply : given_verdict ≡ refusal o.asked.call why
   pub added : ℕ
   pub because : HasCause o now added why
 
 -- by whether a procedure was committed
 abbrev pub Tells : Outset → Option Entry → Verdict → Opened → Type 0
-Tells o (Some entry) told now = IsReplyOf o entry told now ⊎ IsUnsettled o told now
-Tells o None told now = IsOfNull o told now ⊎ IsRefusal o told now
+Tells o (Some entry) given_verdict now = IsReplyOf o entry given_verdict now ⊎ IsUnsettled o given_verdict now
+Tells o None given_verdict now = IsOfNull o given_verdict now ⊎ IsRefusal o given_verdict now
 
 -- how many log positions the change of a call takes that was refused, as its cause says
-abbrev pub added_in : (o : Outset) (entry : Option Entry) (told : Verdict) (now : Opened)
-    → Tells o entry told now → ℕ
-added_in o (Some entry) told now tells = 0
-added_in o None told now (inl null) = 0
-added_in o None told now (inr refused) = refused.added
+abbrev pub added_in : (o : Outset) (entry : Option Entry) (given_verdict : Verdict) (now : Opened)
+    → Tells o entry given_verdict now → ℕ
+added_in o (Some entry) given_verdict now tells = 0
+added_in o None given_verdict now (inl null) = 0
+added_in o None given_verdict now (inr refused) = refused.added
 
 -- What each stop leaves since the call began, those within a device call included: some image, and each that
 -- is left is good, with the boot number and with the files after a beginning of these entries, in which is
@@ -207,14 +207,14 @@ added_in o None told now (inr refused) = refused.added
 pub record LeavesFiles (o : Outset) (entries : List Entry) (now : Opened) : Type 0 where
   pub past : IsLater o.store.device now.device
   pub left : LeavesImages o.store.device now.device
-  pub stops : KeepsFiles o.store.device now.device o.store.boot o.first entries (settled_place o.store.core.log)
+  pub stops : PreservesFiles o.store.device now.device o.store.boot o.first entries (settled_place o.store.core.log)
   pub ended : (image : Image) → IsCrashImage now.device now.device.clock image
       → LeavesBeginning now.device.size o.store.boot o.first entries (settled_place now.core.log) image
 
 -- What comes of a call: the store is open with the entries that there were, and with the call's, where its
 -- procedure was committed; so each stop on the way leaves its files; it led on from the store that there was;
 -- and the answer is that procedure's, or says why there is none.
-pub record HasAnswered (o : Outset) (told : Verdict) (now : Opened) : Type 0 where
+pub record HasAnswered (o : Outset) (given_verdict : Verdict) (now : Opened) : Type 0 where
   pub entry : Option Entry
   pub last : Tree
   pub boot : now.boot ≡ o.store.boot
@@ -222,11 +222,11 @@ pub record HasAnswered (o : Outset) (told : Verdict) (now : Opened) : Type 0 whe
   pub files : LeavesFiles o (o.entries ++ option_to_list entry) now
   pub opened : IsOpenWith now o.first (o.entries ++ option_to_list entry) last
   pub goes : GoesTo o.store now
-  pub tells : Tells o entry told now
+  pub tells : Tells o entry given_verdict now
 
 -- so it does of any call that can be spelled, handed to a store that is open with any entries
 abbrev pub Answers : Type 0 → Opened → Job → Verdict → Opened → Type 0
-Answers keeps_model old asked told new = (first last : Tree) (entries : List Entry) → keeps_model
+Answers keeps_model old asked given_verdict new = (first last : Tree) (entries : List Entry) → keeps_model
     → SoundCall asked.credential asked.moment asked.call → IsOpenWith old first entries last
     → HasAnswered (record {
       store = old;
@@ -234,7 +234,7 @@ Answers keeps_model old asked told new = (first last : Tree) (entries : List Ent
       entries = entries;
       last = last;
       asked = asked;
-    }) told new
+    }) given_verdict new
 
 -- ---- while it is under way
 
@@ -250,14 +250,14 @@ StandsWith o entry now (Read begun taken false) = (entry ≡ None) × IsBegunFor
     × (o.store.device.failures < now.device.failures)
 StandsWith o entry now (Refused begun why) = (entry ≡ None) × IsBegunFor o now begun.number
     × (added : ℕ) × HasCause o now added why
-StandsWith o entry now (Again begun wished) = (entry ≡ None) × IsBegunFor o now begun.number
+StandsWith o entry now (Again begun request) = (entry ≡ None) × IsBegunFor o now begun.number
 StandsWith o entry now (Waiting place) = (place ≡ length o.entries + 1) × (is_some entry ≡ true)
     × (is_answered_stable o.asked.call ≡ true)
 
 -- the worker has no call any more, or is so far with this one
-abbrev pub IsSoFar : Outset → Option Entry → Opened → Progress → Type 0
-IsSoFar o entry now Idle = Unit {0}
-IsSoFar o entry now (At job stage) = (job ≡ o.asked) × StandsWith o entry now stage
+abbrev pub IsAtStage : Outset → Option Entry → Opened → Progress → Type 0
+IsAtStage o entry now Idle = Unit {0}
+IsAtStage o entry now (At job stage) = (job ≡ o.asked) × StandsWith o entry now stage
 
 -- A call is under way: the store is open with the entries that there were and with the call's, where its
 -- procedure was committed; each stop before now left its files; its worker has it alone, and is so far; and
@@ -269,12 +269,12 @@ pub record IsCalling (o : Outset) (now : Opened) (worker : State) : Type 0 where
   pub boot : now.boot ≡ o.store.boot
   pub comes : ComesTo o now entry last
   pub past : IsLater o.store.device now.device
-  pub kept : HasKeptFiles o.store.device now.device o.store.boot o.first (o.entries ++ option_to_list entry)
+  pub is_preserved : HasPreservedFiles o.store.device now.device o.store.boot o.first (o.entries ++ option_to_list entry)
       (settled_place o.store.core.log)
   pub opened : IsOpenAt base now (fetches_of worker) o.first (o.entries ++ option_to_list entry) last
   pub stands : IsWorkerAt o.store.boot (o.entries ++ option_to_list entry) worker
   pub at_work : IsCoreAtWork worker now.core
-  pub so_far : IsSoFar o entry now (progress_of worker)
+  pub so_far : IsAtStage o entry now (progress_of worker)
   pub counted : o.store.device.failures ≤ now.device.failures
   pub further : IsFurther o.store.core now.core
   pub broken : now.core.log.broken ≡ true → HasBroken o.store.core.log o.store.device now.device
@@ -282,7 +282,7 @@ pub record IsCalling (o : Outset) (now : Opened) (worker : State) : Type 0 where
 -- So it is after a step of the worker's own, once its entry and its answer are taken; and its answer, if it
 -- gave one, is what the call comes to.
 pub record HasStepped (o : Outset) (now : Opened) (worker : State) : Type 0 where
-  pub calling : IsCalling o now (told worker)
+  pub calling : IsCalling o now (reported worker)
   pub ends : is_some worker.work.answer ≡ true → is_idle (progress_of worker) ≡ true
   pub answer : IfSome worker.work.answer (λ ready. Tells o calling.entry ready.verdict now)
 

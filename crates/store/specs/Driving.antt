@@ -44,7 +44,7 @@ most_taken blocks = 2 * most_asked blocks + most_claimed blocks
 
 abbrev pub count_of : Option Seen → ℕ
 count_of None = 0
-count_of (Some seen) = times_asked seen.objects seen.alone + length seen.claims
+count_of (Some seen) = times_asked seen.objects seen.exclusives + length seen.claims
 
 -- how much more may be taken
 abbrev pub untaken : Work → ℕ → ℕ
@@ -62,12 +62,12 @@ whole_round blocks = most_taken blocks * (blocks + 1) + blocks + 4
 
 -- The tail has room for what any call changes, or nothing is committed any more: no commit is refused for
 -- want of room then.
-abbrev pub has_room : Log → Bool
-has_room log = log.broken || nat_le (tail_count log + CHANGED_BLOCKS) LOG_SLOTS
+abbrev pub has_log_space : Log → Bool
+has_log_space log = log.broken || nat_le (tail_count log + CHANGED_BLOCKS) LOG_SLOTS
 
 -- what comes behind this transaction: another one, where its commit may be refused for want of room
 abbrev pub rounds_left : Log → ℕ
-rounds_left log = if has_room log then 0 else whole_round log.blocks
+rounds_left log = if has_log_space log then 0 else whole_round log.blocks
 
 abbrev pub left_in : Phase → Work → CoreState → ℕ
 left_in Idle work core = 0

@@ -1,9 +1,9 @@
 //! One call to its answer, by one thread.
 ghost use Rattle.std.specs.Prelude.{◌≡◌, ◌≤◌, ◌⊎◌, length, true};
-ghost use Rattle.base.specs.declared.TheConstants.{MOST_KEPT_COMMITS};
+ghost use Rattle.base.specs.declared.TheConstants.{MOST_UNINSTALLED_COMMITS};
 ghost use Rattle.nfs_spec.specs.Model.Sound.{SoundTime};
 ghost use Rattle.nfs_types.specs.Fits.{CallFits};
-ghost use Rattle.store_workers.specs.Alone.{IsAlone, IsOutAlone, is_full};
+ghost use Rattle.store_workers.specs.Single.{IsSingle, IsSingleOut, is_full};
 ghost use Rattle.store.specs.Calling.{Answers, HasAnswered, HasStepped, IsCalling, Outset, asked_of};
 ghost use Rattle.store.specs.Driving.{HasGoneOn, IsUnderWay, steps_left, waits_for_log};
 ghost use Rattle.store_images.specs.Fetches.{FetchesOnly};
@@ -12,16 +12,16 @@ ghost use Rattle.store_images.specs.Settling.{IsIdle, IsQuiet};
 ghost use Rattle.store_workers.specs.Worker.{Fits};
 ghost use Rattle.store_workers.specs.declared.workers.parts.Phase.TheVariants.{Idle};
 
-use crate::calling::{
-    a_call_begins, a_read_keeps_a_call_going, a_settling_keeps_a_call_going,
-    a_step_keeps_a_call_going,
+use crate::call_laws::{
+    a_call_begins, a_read_preserves_a_call_going, a_settling_preserves_a_call_going,
+    a_step_preserves_a_call_going,
 };
 use disk::CrashDisk;
 use nfs_types::{Call, Credential, Moment};
 use std::alloc::Global;
-use store_images::{Store, keeps_too_many, settle};
+use store_images::{Store, has_too_many_uninstalled, settle};
 use store_promise::{
-    Committing, Step, Verdict, a_stop_leaves_a_beginning, an_open_store_keeps_its_files,
+    Committing, Step, Verdict, a_stop_leaves_a_beginning, an_open_store_preserves_its_files,
 };
 use store_workers::Worker;
 
@@ -32,7 +32,7 @@ use store_workers::Worker;
 /// that is open with some entries is open with the same then, or with the call's besides, whose reply is
 /// answered; else the answer says why there is none. Each stop on the way leaves the files after a beginning of
 /// these entries, in which is each place that was settled before.
-#[tactic(auto, using(crate::proofs::Driven::starts, crate::proofs::DrivenAlone::starts_alone))]
+#[tactic(auto, using(crate::proofs::Driven::starts, crate::proofs::DrivenSingle::starts_single))]
 pub fn procedure<D: CrashDisk>(
     alloc: Global,
     store: &mut Store<D>,
@@ -49,16 +49,16 @@ pub fn procedure<D: CrashDisk>(
         (store_of (D.device store.old.disk) store.old.core store.old.boot)
         (asked_of credential moment call) result
         (store_of (D.device store.new.disk) store.new.core store.new.boot) }
-    ensures kept { (length store.new.core.records ≤ MOST_KEPT_COMMITS) ⊎ (store.new.core.log.broken ≡ true) }
+    ensures is_preserved { (length store.new.core.records ≤ MOST_UNINSTALLED_COMMITS) ⊎ (store.new.core.log.broken ≡ true) }
     ensures model { D.keeps_model store.new.disk → D.keeps_model store.old.disk }
 {
     a_call_begins();
-    let mut worker = Worker::with_room(alloc, store.room);
+    let mut worker = Worker::with_alloc_cursor(alloc, store.alloc_cursor);
     worker.hand(credential, moment, call);
     let verdict = answer(alloc, store, &mut worker);
-    store.room = worker.room();
+    store.alloc_cursor = worker.alloc_cursor();
     worker.end(&mut store.core);
-    if keeps_too_many(store) {
+    if has_too_many_uninstalled(store) {
         let _ = settle(store);
     }
     verdict
@@ -69,11 +69,11 @@ pub fn procedure<D: CrashDisk>(
 fn answer<D: CrashDisk>(alloc: Global, store: &mut Store<D>, worker: &mut Worker) -> Verdict
     requires fits { Fits worker.old store.old.core }
     requires quiet { IsQuiet store.old.core.log }
-    requires alone { IsAlone worker.old.state store.old.core }
+    requires single_worker { IsSingle worker.old.state store.old.core }
     requires under_way { IsUnderWay worker.old.state store.old.core }
     ensures fits { Fits worker.new store.new.core }
     ensures quiet { IsQuiet store.new.core.log }
-    ensures out { IsOutAlone worker.new.state store.new.core }
+    ensures out { IsSingleOut worker.new.state store.new.core }
     ensures fetches { FetchesOnly worker.new.state.begun.io store.new.core }
     ensures boot { store.new.boot ≡ store.old.boot }
     ensures answered { (o : Outset) → D.keeps_model store.new.disk
@@ -82,7 +82,7 @@ fn answer<D: CrashDisk>(alloc: Global, store: &mut Store<D>, worker: &mut Worker
         × (worker.new.state.phase ≡ Idle) }
     ensures model { D.keeps_model store.new.disk → D.keeps_model store.old.disk }
 {
-    an_open_store_keeps_its_files();
+    an_open_store_preserves_its_files();
     a_stop_leaves_a_beginning();
     'steps: loop {
         go_on(alloc, store, worker);
@@ -97,11 +97,11 @@ fn answer<D: CrashDisk>(alloc: Global, store: &mut Store<D>, worker: &mut Worker
 fn go_on<D: CrashDisk>(alloc: Global, store: &mut Store<D>, worker: &mut Worker)
     requires fits { Fits worker.old store.old.core }
     requires quiet { IsQuiet store.old.core.log }
-    requires alone { IsAlone worker.old.state store.old.core }
+    requires single_worker { IsSingle worker.old.state store.old.core }
     requires under_way { IsUnderWay worker.old.state store.old.core }
     ensures fits { Fits worker.new store.new.core }
     ensures quiet { IsQuiet store.new.core.log }
-    ensures alone { IsAlone worker.new.state store.new.core }
+    ensures single_worker { IsSingle worker.new.state store.new.core }
     ensures nearer { HasGoneOn (steps_left worker.old.state store.old.core) worker.new.state store.new.core }
     ensures boot { store.new.boot ≡ store.old.boot }
     ensures going { (o : Outset) → D.keeps_model store.new.disk
@@ -109,9 +109,9 @@ fn go_on<D: CrashDisk>(alloc: Global, store: &mut Store<D>, worker: &mut Worker)
         → HasStepped o (store_of (D.device store.new.disk) store.new.core store.new.boot) worker.new.state }
     ensures model { D.keeps_model store.new.disk → D.keeps_model store.old.disk }
 {
-    a_read_keeps_a_call_going();
-    a_settling_keeps_a_call_going();
-    a_step_keeps_a_call_going();
+    a_read_preserves_a_call_going();
+    a_settling_preserves_a_call_going();
+    a_step_preserves_a_call_going();
     store.core.lawful();
     let made = worker.step(alloc, &mut store.core);
     store.core.lawful();

@@ -6,9 +6,9 @@ mod formatted_run;
 mod runs;
 
 pub use at_work::{
-    a_call_leaves_the_run_going, a_commit_is_told_by_its_blocks, a_core_at_work_stays_so,
-    a_read_leaves_the_run_going, a_worker_leaves_the_run_going, a_workers_step_is_told,
-    a_workers_step_may_be_made, what_was_fetched_stays,
+    a_call_leaves_the_run_going, a_commit_moves_the_state_by_its_blocks, a_core_at_work_stays_so,
+    a_read_leaves_the_run_going, a_worker_leaves_the_run_going, a_workers_step_may_be_made,
+    a_workers_step_moves_the_state, what_was_fetched_stays,
 };
 pub use formatted_run::format_and_run;
 pub use runs::{can_be_spelled, run};

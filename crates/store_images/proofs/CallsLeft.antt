@@ -244,12 +244,12 @@ pub none_left : (log : Log) → IsLawful log → log.broken ≡ false → log.lo
     → may_log log ≡ false → may_install log ≡ false → length log.changes ≡ 0
 none_left log lawful sound no_log no_inst idle settled = grind (arith, nat_tests, lawful.tail)
 
-at_rest : (changes : List LogChange) (logged places kept : ℕ) → length changes ≡ 0
-    → place_before changes places + kept ≡ places
-    → (place_before (drop logged changes) places ≡ places) × (kept ≡ 0)
-at_rest [] zero places kept none all = (refl, grind (arith))
-at_rest [] (suc n) places kept none all = (refl, grind (arith))
-at_rest (change ∷ later) logged places kept none all = absurd (grind (arith))
+at_rest : (changes : List LogChange) (logged places is_preserved : ℕ) → length changes ≡ 0
+    → place_before changes places + is_preserved ≡ places
+    → (place_before (drop logged changes) places ≡ places) × (is_preserved ≡ 0)
+at_rest [] zero places is_preserved none all = (refl, grind (arith))
+at_rest [] (suc n) places is_preserved none all = (refl, grind (arith))
+at_rest (change ∷ later) logged places is_preserved none all = absurd (grind (arith))
 
 -- then everything is settled, and no commit is kept
 pub stuck : (core after : CoreState) (is_plan : ℕ → ℕ → List ObjectBytes → List ObjectBytes → Type 0)

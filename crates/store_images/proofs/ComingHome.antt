@@ -18,7 +18,7 @@ use Rattle.layout.specs.Homes.{homes_of, is_home}
 use Rattle.layout.specs.Stands.{Stands}
 use Rattle.layout.specs.SuperForm.{IsSuper}
 use Rattle.circ.specs.declared.log.change.LogChange.{LogChange}
-use Rattle.circ.specs.Log.Calls.{AgreesBeside, InstCallComesBack, InstCallGoesOut, InstCallIsMade, home_after}
+use Rattle.circ.specs.Log.Calls.{AgreesWithPending, InstCallComesBack, InstCallGoesOut, InstCallIsMade, home_after}
 use Rattle.circ.specs.Log.Calls.{idle}
 use Rattle.circ.specs.Log.Grows.{IsWholeChange}
 use Rattle.circ.specs.Log.Installer.{next_home, with_installed, with_inst_back, with_inst_out}
@@ -37,7 +37,7 @@ use Rattle.txn_law.proofs.Homes.{whole_after}
 use Rattle.store_promise.specs.GoodImage.{IsGoodImage}
 use Rattle.store_promise.specs.Openings.{AtEachStop}
 use Rattle.store_promise.proofs.Stopped.{as_at_home, no_change, outside_of, take_len}
-use Rattle.store_images.specs.BringingHome.{HasBlocksOf, HasBlocksWith, IsComingHome, KeepsBlocks}
+use Rattle.store_images.specs.BringingHome.{HasBlocksOf, HasBlocksWith, IsComingHome, PreservesBlocks}
 use Rattle.store_promise.proofs.Later.{past_more, past_one, read_later}
 use Rattle.store_images.proofs.Later.{one_stop_more}
 
@@ -227,7 +227,7 @@ module _ (first : Image) (now next : Device) (log out new : Log) (io : Io)
     (answer : Result Unit Failed) (ok : Bool) (out_lawful : IsLawful out)
     (changes : All IsWholeChange log.changes)
     (goes : out ≡ with_inst_out log) (goes_out : InstCallGoesOut log io out)
-    (made : InstCallIsMade now io answer next) (told : ok ≡ is_ok answer)
+    (made : InstCallIsMade now io answer next) (answer_is_ok : ok ≡ is_ok answer)
     (back : new ≡ with_inst_back out ok) (comes_back : InstCallComesBack out io ok new)
     (blocks_are : new.blocks ≡ log.blocks) (coming : IsComingHome first now log) where
   out_is : (out.changes ≡ log.changes) × (out.logged ≡ log.logged) × (out.taken ≡ log.taken)
@@ -243,7 +243,7 @@ module _ (first : Image) (now next : Device) (log out new : Log) (io : Io)
   pub called_home : IsComingHome first next new
   called_home = record {
     base = home_after coming.base out ok;
-    agrees = comes_back next coming.base answer idle (sym told)
+    agrees = comes_back next coming.base answer idle (sym answer_is_ok)
         (made coming.base out idle out_lawful (goes_out now coming.base idle coming.agrees));
     whole = subst (λ size. AreWhole size (home_after coming.base out ok)) (sym blocks_are)
         (whole_after log.blocks coming.base out ok
@@ -258,13 +258,13 @@ module _ (first : Image) (now next : Device) (log out new : Log) (io : Io)
   }
 
 -- and each stop so far leaves the same blocks
-pub home_stops : (before now next : Device) (log : Log) (raised : Content) → IsLawful log → OneLater now next
-    → IsComingHome (image_of before) next log → KeepsBlocks before now raised → KeepsBlocks before next raised
-home_stops before now next log raised lawful later coming keeps = record {
-  past = past_more before now next keeps.past (past_one now next later);
-  stops = subst (λ size. AtEachStop before next (λ at image. HasBlocksWith size (image_of before) raised image))
-      (sym later.size) (one_stop_more (HasBlocksWith now.size (image_of before) raised) before now next later
-      keeps.stops (λ image is.
+pub home_stops : (before now next : Device) (log : Log) (incremented : Content) → IsLawful log → OneLater now next
+    → IsComingHome (image_of before) next log → PreservesBlocks before now incremented → PreservesBlocks before next incremented
+home_stops before now next log incremented lawful later coming preserves = record {
+  past = past_more before now next preserves.past (past_one now next later);
+  stops = subst (λ size. AtEachStop before next (λ at image. HasBlocksWith size (image_of before) incremented image))
+      (sym later.size) (one_stop_more (HasBlocksWith now.size (image_of before) incremented) before now next later
+      preserves.stops (λ image is.
       inl (subst (λ size. HasBlocksOf size (image_of before) (image_of before SUPER_BLOCK) image) later.size
       (stop_blocks (image_of before) next log image lawful coming is))));
 }
@@ -286,16 +286,16 @@ module _ (before now : Device) (reads : HasOnlyRead before now) (rest : IsAtRest
     one = λ block within.
         ap (λ (cs : List Content). length cs) (reads.during now.clock block reads.clock (omega arith))
         ∙ rest.one block (omega (arith, within, reads.size));
-    unspoiled = λ block. reads.spoiled block ∙ rest.unspoiled block;
+    certain = λ block. reads.uncertain block ∙ rest.certain block;
   }
 
   pub found_home : IsComingHome (image_of before) now
       (opened before.size (start_in (image_of before)) (logged_in (image_of before)))
   found_home = record {
     base = image_of before;
-    agrees = subst (λ size. AgreesBeside now (image_of before)
+    agrees = subst (λ size. AgreesWithPending now (image_of before)
         (opened size (start_in (image_of before)) (logged_in (image_of before))) idle idle) reads.size
-        (subst (λ (image : Image). AgreesBeside now image
+        (subst (λ (image : Image). AgreesWithPending now image
         (opened now.size (start_in image) (logged_in image)) idle
         idle) image_is (stands_found now (omega (arith, some, reads.size)) at_rest
         (subst IsInRange (sym image_is) range)));
@@ -310,9 +310,9 @@ module _ (before now : Device) (reads : HasOnlyRead before now) (rest : IsAtRest
     taken = refl;
   }
 
-  pub found_stops : (raised : Content) (log : Log) → IsLawful log → IsComingHome (image_of before) now log
-      → KeepsBlocks before now raised
-  found_stops raised log lawful coming = record {
+  pub found_stops : (incremented : Content) (log : Log) → IsLawful log → IsComingHome (image_of before) now log
+      → PreservesBlocks before now incremented
+  found_stops incremented log lawful coming = record {
     past = read_later before now reads;
     stops = λ clock image above below is. inl (stop_blocks (image_of before) now log image lawful coming
         (λ block within. subst (λ (cs : List Content). Contains cs (image block))

@@ -13,7 +13,7 @@ use Rattle.nfs_types.specs.declared.ctx.Moment.{Moment}
 use Rattle.disk.specs.Blocks.{AreBlocks, IsBlock}
 use Rattle.disk.specs.Crash.{Image, IsAtRest, IsCrashImage}
 use Rattle.disk.specs.Device.{Appends, Content, Device, HasSettled, HasWritten, OneLater, current, is_on}
-use Rattle.disk.specs.Device.{newest_alone}
+use Rattle.disk.specs.Device.{newest_only}
 use Rattle.disk.specs.Device.{Settles}
 use Rattle.disk.specs.declared.block.Side.{Side}
 use Rattle.disk.specs.declared.block.Side.TheVariants.{Home, Log}
@@ -68,10 +68,10 @@ super_stays_on old now next so later same = record {
 }
 
 -- so does what another write does,
-super_beside : (old now next : Device) (block : ℕ) (content : Content) (r : Result Unit Failed)
+super_unaffected : (old now next : Device) (block : ℕ) (content : Content) (r : Result Unit Failed)
     → (SUPER_BLOCK ≡ block → ⊥) → LeavesSuper old now → HasWritten now block content r next
     → LeavesSuper old next
-super_beside old now next block content r other so write =
+super_unaffected old now next block content r other so write =
     super_stays_on old now next so write.later (write.others SUPER_BLOCK other)
 
 -- what comes after it,
@@ -90,20 +90,20 @@ pub super_barrier : (old now next : Device) (side : Side) (content : Content) (r
     → current old SUPER_BLOCK ≡ content ∷ [] → LeavesSuper old now → HasSettled now side r next
     → LeavesSuper old next
 super_barrier old now next side content r one so settled = super_stays_on old now next so settled.later
-    (same_alone r (current next SUPER_BLOCK) (settled.contents SUPER_BLOCK))
+    (same_newest r (current next SUPER_BLOCK) (settled.contents SUPER_BLOCK))
   where
-    alone : current now SUPER_BLOCK ≡ content ∷ []
-    alone = so.super now.clock so.past.clock (omega arith) ∙ one
+    only_this_content : current now SUPER_BLOCK ≡ content ∷ []
+    only_this_content = so.super now.clock so.past.clock (omega arith) ∙ one
 
-    either : (on : Bool) → (if on then newest_alone (current now SUPER_BLOCK) else current now SUPER_BLOCK)
+    either : (on : Bool) → (if on then newest_only (current now SUPER_BLOCK) else current now SUPER_BLOCK)
         ≡ current now SUPER_BLOCK
-    either true = subst (λ (cs : List Content). newest_alone cs ≡ cs) (sym alone) refl
+    either true = subst (λ (cs : List Content). newest_only cs ≡ cs) (sym only_this_content) refl
     either false = refl
 
-    same_alone : (answer : Result Unit Failed) (new : List Content)
+    same_newest : (answer : Result Unit Failed) (new : List Content)
         → Settles side SUPER_BLOCK (current now SUPER_BLOCK) answer new → new ≡ current now SUPER_BLOCK
-    same_alone (Ok u) new is = is ∙ either (is_on side SUPER_BLOCK)
-    same_alone (Err u) new is = is
+    same_newest (Ok u) new is = is ∙ either (is_on side SUPER_BLOCK)
+    same_newest (Err u) new is = is
 
 -- the log's own blocks are written, and then others
 pub super_filled : (old first second now : Device) (header start : Content) (r s : Result Unit Failed)
@@ -111,8 +111,8 @@ pub super_filled : (old first second now : Device) (header start : Content) (r s
     → LeavesSuper second now → LeavesSuper old now
 super_filled old first second now header start r s one two rest =
     super_more old second now
-    (super_beside old first second START_BLOCK start s (λ same. cc)
-    (super_beside old old first LOG_HEADER_BLOCK header r (λ same. cc) (super_stays old) one) two) rest
+    (super_unaffected old first second START_BLOCK start s (λ same. cc)
+    (super_unaffected old old first LOG_HEADER_BLOCK header r (λ same. cc) (super_stays old) one) two) rest
 
 -- ---- the stops of a format
 
@@ -350,27 +350,27 @@ blanked_stops old mid new (Err e) some write settled g moment =
 abbrev IsOne : Device → ℕ → Type 0
 IsOne d number = length (current d number) ≡ 1
 
-one_alone : (cs : List Content) → length cs ≡ 1 → length (newest_alone cs) ≡ 1
-one_alone [] none = absurd (omega (arith, none))
-one_alone (c ∷ []) one = refl
-one_alone (c ∷ (d ∷ later)) many = absurd (omega (arith, many))
+single_newest : (cs : List Content) → length cs ≡ 1 → length (newest_only cs) ≡ 1
+single_newest [] none = absurd (omega (arith, none))
+single_newest (c ∷ []) one = refl
+single_newest (c ∷ (d ∷ later)) many = absurd (omega (arith, many))
 
 one_settled : (old new : Device) (side : Side) (number : ℕ) → HasSettled old side done new → IsOne old number
     → IsOne new number
 one_settled old new side number settled one = by_side (is_on side number) (settled.contents number)
   where
     by_side : (on : Bool) → current new number
-        ≡ (if on then newest_alone (current old number) else current old number)
+        ≡ (if on then newest_only (current old number) else current old number)
         → IsOne new number
-    by_side true now = ap (λ (cs : List Content). length cs) now ∙ one_alone (current old number) one
+    by_side true now = ap (λ (cs : List Content). length cs) now ∙ single_newest (current old number) one
     by_side false now = ap (λ (cs : List Content). length cs) now ∙ one
 
 one_made : (d : Device) (number : ℕ) (content : Content) → current d number ≡ content ∷ [] → IsOne d number
 one_made d number content is = ap (λ (cs : List Content). length cs) is
 
-spoiled_no_more : (old new : Device) (block : ℕ) (content : Content) → HasWritten old block content done new
-    → (number : ℕ) → new.spoiled number ≡ old.spoiled number
-spoiled_no_more old new block content write number = write.spoiled number ∙ none (old.spoiled number)
+uncertain_no_more : (old new : Device) (block : ℕ) (content : Content) → HasWritten old block content done new
+    → (number : ℕ) → new.uncertain number ≡ old.uncertain number
+uncertain_no_more old new block content write number = write.uncertain number ∙ none (old.uncertain number)
   where
     none : (b : Bool) → (b || (false && nat_eq number block)) ≡ b
     none true = refl
@@ -428,10 +428,10 @@ module _ (a b c d e f : Device) (g : Geometry) (moment : Moment) (blank : IsBlan
         | inr (inr past) ↦ left rest number within (omega (arith, past)) (inr (omega (arith, past)))
       ]
     ];
-    unspoiled = λ number. home.spoiled number ∙ log.spoiled number ∙ parts.spoiled number
-        ∙ spoiled_no_more b c START_BLOCK (fresh g moment START_BLOCK) start number
-        ∙ spoiled_no_more a b LOG_HEADER_BLOCK (fresh g moment LOG_HEADER_BLOCK) header number
-        ∙ rest.unspoiled number;
+    certain = λ number. home.uncertain number ∙ log.uncertain number ∙ parts.uncertain number
+        ∙ uncertain_no_more b c START_BLOCK (fresh g moment START_BLOCK) start number
+        ∙ uncertain_no_more a b LOG_HEADER_BLOCK (fresh g moment LOG_HEADER_BLOCK) header number
+        ∙ rest.certain number;
   }
     where
       left : IsAtRest a → (number : ℕ) → number < f.size → LOG_HEADER_BLOCK < number
@@ -468,14 +468,14 @@ module _ (before f h : Device) (g : Geometry) (moment : Moment) (sizes : g.block
       (settled.later.size ∙ write.later.size ∙ sym sizes) blocks
       (made_still h i g moment answer (made_on f h g moment (fresh g moment SUPER_BLOCK) done behind
       write) settled)
-      settled (new_alone answer settled)
+      settled (new_only answer settled)
     where
-      new_alone : (r : Result Unit Failed) → HasSettled h Home r i → r ≡ done
+      new_only : (r : Result Unit Failed) → HasSettled h Home r i → r ≡ done
           → current i SUPER_BLOCK ≡ fresh g moment SUPER_BLOCK ∷ []
-      new_alone (Ok u) settles_it is =
+      new_only (Ok u) settles_it is =
           settles h i Home SUPER_BLOCK (fresh g moment SUPER_BLOCK) settles_it refl
           (current f SUPER_BLOCK, write.written)
-      new_alone (Err failed) settles_it is = cc
+      new_only (Err failed) settles_it is = cc
 
 -- ---- the whole
 

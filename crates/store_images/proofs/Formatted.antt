@@ -12,7 +12,7 @@ use Rattle.nfs_types.specs.declared.ctx.Moment.{Moment}
 use Rattle.disk.specs.declared.block.Side.{Side}
 use Rattle.disk.specs.declared.block.Side.TheVariants.{Log, Home}
 use Rattle.disk.specs.declared.device.Failed.{Failed}
-use Rattle.disk.specs.Device.{Content, Device, HasSettled, HasWritten, current, is_on, newest_alone}
+use Rattle.disk.specs.Device.{Content, Device, HasSettled, HasWritten, current, is_on, newest_only}
 use Rattle.layout.specs.declared.geometry.Geometry.{Geometry}
 use Rattle.layout.specs.Fresh.{fresh}
 use Rattle.layout.specs.Geometry.{data_at}
@@ -35,23 +35,23 @@ one_more old mid new g moment end upto home write = record {
   before = λ number low. write.others number (λ (e : number ≡ end). omega arith) ∙ upto.before number low;
   behind = λ number high. write.others number (λ (e : number ≡ end). omega arith)
       ∙ upto.behind number (omega arith);
-  spoiled = λ number. write.spoiled number ∙ or_false (mid.spoiled number) ∙ upto.spoiled number;
+  uncertain = λ number. write.uncertain number ∙ or_false (mid.uncertain number) ∙ upto.uncertain number;
 }
   where
-    kept : (number : ℕ) → number < end → FIRST_HOME_BLOCK ≤ number → IsNewest new number (fresh g moment number)
-    kept number below above =
+    is_preserved : (number : ℕ) → number < end → FIRST_HOME_BLOCK ≤ number → IsNewest new number (fresh g moment number)
+    is_preserved number below above =
         let earlier = upto.written number above below in
         (earlier.0, write.others number (λ (e : number ≡ end). omega arith) ∙ earlier.1)
 
     all : (number : ℕ) → number < end + 1 → FIRST_HOME_BLOCK ≤ number
         → IsNewest new number (fresh g moment number)
     all = below_more (λ number. FIRST_HOME_BLOCK ≤ number
-        → IsNewest new number (fresh g moment number)) end kept (λ above. (current mid end, write.written))
+        → IsNewest new number (fresh g moment number)) end is_preserved (λ above. (current mid end, write.written))
 
 -- the newest of contents that end in one is that one
-alone_last : (earlier : List Content) (content : Content)
-    → newest_alone (earlier ++ content ∷ []) ≡ content ∷ []
-alone_last earlier content =
+newest_is_last : (earlier : List Content) (content : Content)
+    → newest_only (earlier ++ content ∷ []) ≡ content ∷ []
+newest_is_last earlier content =
     let e : length (earlier ++ content ∷ []) - 1 ≡ length earlier =
     omega (arith, length-append {A = Content}) in
     ap (λ n. drop n (earlier ++ content ∷ [])) e ∙ drop-append_seam earlier (content ∷ [])
@@ -60,15 +60,15 @@ alone_last earlier content =
 pub settles : (old new : Device) (side : Side) (number : ℕ) (content : Content) → HasSettled old side done new
     → is_on side number ≡ true → IsNewest old number content → current new number ≡ content ∷ []
 settles old new side number content settled on newest =
-    settled.contents number ∙ ap (λ (t : Bool). if t then newest_alone (current old number) else current
+    settled.contents number ∙ ap (λ (t : Bool). if t then newest_only (current old number) else current
     old number) on
-    ∙ ap newest_alone newest.1 ∙ alone_last newest.0 content
+    ∙ ap newest_only newest.1 ∙ newest_is_last newest.0 content
 
 -- a barrier of the other side leaves the block
 pub passes : (old new : Device) (side : Side) (number : ℕ) → HasSettled old side done new
     → is_on side number ≡ false → current new number ≡ current old number
 passes old new side number settled off =
-    settled.contents number ∙ ap (λ (t : Bool). if t then newest_alone (current old number) else current
+    settled.contents number ∙ ap (λ (t : Bool). if t then newest_only (current old number) else current
     old number) off
 
 -- one content is the newest
@@ -141,9 +141,9 @@ made_still h i g moment (Ok u) made settled number above below free =
     by_side (is_on Home number) (settled.contents number) (made number above below free)
   where
     by_side : (on : Bool) → current i number
-        ≡ (if on then newest_alone (current h number) else current h number)
+        ≡ (if on then newest_only (current h number) else current h number)
         → current h number ≡ fresh g moment number ∷ [] → current i number ≡ fresh g moment number ∷ []
-    by_side true now before = now ∙ ap newest_alone before
+    by_side true now before = now ∙ ap newest_only before
     by_side false now before = now ∙ before
 
 -- and then the first is

@@ -7,7 +7,7 @@ use Rattle.objects.specs.declared.addr.Addr.{Addr}
 use Rattle.txn_law.specs.Holds.{hold_of, is_hold_of, is_taken}
 use Rattle.txn_law.specs.declared.hold.Hold.{Hold}
 use Rattle.txn_law.proofs.Claims.{found_by, all_four}
-use Rattle.txn_law.proofs.Tidied.{taken_one}
+use Rattle.txn_law.proofs.StaysWellFormed.{taken_one}
 
 pub held_taken : (holds : List Hold) (tx : ℕ) (addr : Addr) (block : BlockNo) → addr.block.0 ≡ block.0
     → is_some (hold_of holds tx addr) ≡ true → is_taken holds block ≡ true

@@ -12,7 +12,7 @@ pub mod Lost
 pub mod OneCall
 pub mod Opens
 pub mod OutCalls
-pub mod Raising
+pub mod Incrementing
 pub mod Refusing
 pub mod SettlingCalls
 pub mod Staying

@@ -6,7 +6,7 @@ use Rattle.std.proofs.lemmas.List.{length-drop}
 use Rattle.disk.specs.Crash.{Image}
 use Rattle.disk.specs.Device.{Device}
 use Rattle.disk.specs.declared.device.Failed.{Failed}
-use Rattle.circ.specs.Log.Calls.{AgreesBeside, IsInstallerAt, IsLoggerAt, Pending, idle, out}
+use Rattle.circ.specs.Log.Calls.{AgreesWithPending, IsInstallerAt, IsLoggerAt, Pending, idle, out}
 use Rattle.circ.specs.Log.Calls.{InstCallComesBack, InstCallGoesOut, InstCallIsMade, LogCallComesBack}
 use Rattle.circ.specs.Log.Calls.{LogCallGoesOut, LogCallIsMade, was_made}
 use Rattle.circ.specs.Log.Installer.{IsNextInstCall, is_inst_out, may_install, next_home, with_inst_back}
@@ -16,28 +16,28 @@ use Rattle.circ.specs.Log.Log.{IsLawful, Log}
 use Rattle.circ.specs.Log.Logger.{IsNextLogCall, is_log_out, may_log, with_log_back, with_log_out}
 use Rattle.store_promise.specs.declared.events.Step.{Step}
 use Rattle.store_promise.specs.declared.events.Step.TheVariants as step
-use Rattle.store_promise.specs.LogTold.{LogTold, log_moved}
+use Rattle.store_promise.specs.LogState.{LogState, log_moved}
 use Rattle.store_promise.specs.NextCall.{IsNextOfInstalling, next_log_call}
-use Rattle.store_promise.specs.Running.{home_next, told_next}
+use Rattle.store_promise.specs.Running.{home_next, next_log_state}
 use Rattle.store_promise.specs.Schedule.{IsNextOfInstaller, IsNextOfLog, Setting}
-use Rattle.store_promise.specs.ToldOf.{StandsAtHome, log_told}
-use Rattle.store_promise.proofs.ToldLog.{inst_call_is, log_call_is, may_install_is, may_log_is}
-use Rattle.store_promise.proofs.ToldLog.{stands_given_back}
-use Rattle.store_promise.proofs.ToldLog.{stands_logging, stands_taken}
-use Rattle.store_promise.proofs.ToldOf.{inst_given_told, inst_taken_told, log_given_told, log_taken_told}
+use Rattle.store_promise.specs.LogStateOf.{StandsAtHome, log_state_of}
+use Rattle.store_promise.proofs.LogStateIs.{inst_call_is, log_call_is, may_install_is, may_log_is}
+use Rattle.store_promise.proofs.LogStateIs.{stands_given_back}
+use Rattle.store_promise.proofs.LogStateIs.{stands_logging, stands_taken}
+use Rattle.store_promise.proofs.LogStateOf.{inst_given_moves_state, inst_taken_moves_state, log_given_moves_state, log_taken_moves_state}
 use Rattle.store_images.proofs.OutCalls.{its_home_is_out, its_is_out}
-use Rattle.store_images.specs.LogSide.{MayInstIo, MayInstall, MayLog, MayLogIo, pending_of}
+use Rattle.store_images.specs.LogCallState.{MayInstIo, MayInstall, MayLog, MayLogIo, pending_of}
 
 -- the device, the memory log, and the calls that are out
-pub record LogSide : Type 0 where
+pub record LogCallState : Type 0 where
   pub device : Device
   pub log : Log
   pub logging : Pending
   pub installing : Pending
 
 -- what is told of it, where an opening left the log at a position
-abbrev told_at : ℕ → LogSide → LogTold
-told_at position side = log_told position side.log side.logging side.installing
+abbrev log_state_at : ℕ → LogCallState → LogState
+log_state_at position side = log_state_of position side.log side.logging side.installing
 
 -- the log has gone on from where the opening left it, on the disk that was opened
 pub record IsBehind (o : Setting) (log : Log) : Type 0 where
@@ -45,20 +45,20 @@ pub record IsBehind (o : Setting) (log : Log) : Type 0 where
   pub blocks : o.geometry.blocks ≡ log.blocks
 
 -- The log's side agrees over what is at home, and the installer stands at a home.
-pub record IsOver (o : Setting) (base : Image) (side : LogSide) : Type 0 where
-  pub agrees : AgreesBeside side.device base side.log side.logging side.installing
+pub record IsOver (o : Setting) (base : Image) (side : LogCallState) : Type 0 where
+  pub agrees : AgreesWithPending side.device base side.log side.logging side.installing
   pub stands : StandsAtHome side.log
   pub behind : IsBehind o side.log
 
 -- Whatever is at home, a step is one that may be made, it leads from what is told to what is told next, and the
 -- log's side agrees as before.
-abbrev pub Tells : (Setting → LogTold → Option Step → Type 0) → LogSide → Option Step → LogSide → Type 0
+abbrev pub Tells : (Setting → LogState → Option Step → Type 0) → LogCallState → Option Step → LogCallState → Type 0
 Tells MayMake old made new = (o : Setting) (base : Image) → IsOver o base old
-    → MayMake o (told_at o.position old) made
-    × (told_at o.position new ≡ told_next (told_at o.position old) made)
+    → MayMake o (log_state_at o.position old) made
+    × (log_state_at o.position new ≡ next_log_state (log_state_at o.position old) made)
     × IsOver o (home_next base old.log made) new
 
-abbrev pub side : Device → Log → Pending → Pending → LogSide
+abbrev pub side : Device → Log → Pending → Pending → LogCallState
 side device log logging installing = record {
   device = device;
   log = log;
@@ -97,13 +97,13 @@ module _ (d : Device) (old : Log) (installing : Pending) (lawful : IsLawful old)
         (side d new (out io) installing)
     log_taken new some is goes o base over =
         let may = may_log_is o.position old installing lawful over.agrees.logger ∙ some in
-        let agrees = subst (λ log. AgreesBeside d base log (out io) installing) is
+        let agrees = subst (λ log. AgreesWithPending d base log (out io) installing) is
         (goes d base installing over.agrees) in
         let call = log_call_is o.position old installing lawful io over.behind.position agrees.logger.1 in (
-          subst (λ b. IsNextOfLog b (next_log_call o.position (log_told o.position old idle installing))
+          subst (λ b. IsNextOfLog b (next_log_call o.position (log_state_of o.position old idle installing))
               (Some (step.LogNext io.call))) (sym may) call,
-          ap (λ log. log_told o.position log (out io) installing) is
-              ∙ log_taken_told o.position old io installing lawful,
+          ap (λ log. log_state_of o.position log (out io) installing) is
+              ∙ log_taken_moves_state o.position old io installing lawful,
           subst (λ log. IsOver o base (side d log (out io) installing)) (sym is)
               (record {
                 agrees = agrees;
@@ -120,8 +120,8 @@ module _ (d : Device) (old : Log) (installing : Pending) (lawful : IsLawful old)
         let its = out_of d old io true over.agrees.logger in
         let same = is ∙ (λ i. if its_is_out old io its.0 its.1 i then with_log_back old true else old) in (
           refl,
-          ap (λ log. log_told o.position log idle installing) same
-              ∙ log_given_told o.position old io (Ok tt) installing true,
+          ap (λ log. log_state_of o.position log idle installing) same
+              ∙ log_given_moves_state o.position old io (Ok tt) installing true,
           record {
             agrees = back d base (Ok tt) installing refl over.agrees;
             stands = subst StandsAtHome (sym same) (stands_logging old true over.stands);
@@ -132,8 +132,8 @@ module _ (d : Device) (old : Log) (installing : Pending) (lawful : IsLawful old)
         let its = out_of d old io false over.agrees.logger in
         let same = is ∙ (λ i. if its_is_out old io its.0 its.1 i then with_log_back old false else old) in (
           refl,
-          ap (λ log. log_told o.position log idle installing) same
-              ∙ log_given_told o.position old io (Err (record {})) installing false,
+          ap (λ log. log_state_of o.position log idle installing) same
+              ∙ log_given_moves_state o.position old io (Err (record {})) installing false,
           record {
             agrees = back d base (Err (record {})) installing refl over.agrees;
             stands = subst StandsAtHome (sym same) (stands_logging old false over.stands);
@@ -141,11 +141,11 @@ module _ (d : Device) (old : Log) (installing : Pending) (lawful : IsLawful old)
           },
         )
 
-told_made : (position : ℕ) (log : Log) (io : Io) (installing : Pending) (ok : Bool)
-    → log_told position log (pending_of (Some io) (Some ok)) installing
-    ≡ log_moved (log_told position log (out io) installing) (step.LogIo ok)
-told_made position log io installing true = refl
-told_made position log io installing false = refl
+made_moves_log_state : (position : ℕ) (log : Log) (io : Io) (installing : Pending) (ok : Bool)
+    → log_state_of position log (pending_of (Some io) (Some ok)) installing
+    ≡ log_moved (log_state_of position log (out io) installing) (step.LogIo ok)
+made_moves_log_state position log io installing true = refl
+made_moves_log_state position log io installing false = refl
 
 pub log_made : (before after : Device) (log : Log) (installing : Pending) (io : Io)
     (result : Result Unit Failed) (ok : Bool) → IsLawful log → LogCallIsMade before io result after
@@ -156,9 +156,9 @@ log_made before after log installing io result ok lawful made is o base over =
     let same : pending_of (Some io) (Some ok) ≡ was_made io result =
     ap (λ b. pending_of (Some io) (Some b)) is ∙ answer_is io result in (
       tt,
-      told_made o.position log io installing ok,
+      made_moves_log_state o.position log io installing ok,
       record {
-        agrees = subst (λ p. AgreesBeside after base log p installing) (sym same)
+        agrees = subst (λ p. AgreesWithPending after base log p installing) (sym same)
             (made base log installing lawful over.agrees);
         stands = over.stands;
         behind = over.behind;
@@ -175,7 +175,7 @@ home_out_of d base log io false at = (at.0, at.1)
 
 -- what the installer's call leaves of the log once it is given back
 pub inst_back_is : (d : Device) (base : Image) (log new : Log) (logging : Pending) (io : Io) (ok : Bool)
-    → AgreesBeside d base log logging (pending_of (Some io) (Some ok))
+    → AgreesWithPending d base log logging (pending_of (Some io) (Some ok))
     → new ≡ (if is_inst_out log io then with_inst_back log ok else log) → new ≡ with_inst_back log ok
 inst_back_is d base log new logging io ok agrees is =
     let its = home_out_of d base log io ok agrees.installer in
@@ -221,16 +221,16 @@ module _ (d : Device) (old : Log) (logging : Pending) (lawful : IsLawful old) wh
         → Tells MayInstall (side d old logging idle) (Some (step.InstNext io.call))
         (side d new logging (out io))
     inst_taken new some is goes o base over =
-        let told = log_told o.position old logging idle in
+        let log_state = log_state_of o.position old logging idle in
         let may = may_install_is o.position old logging over.agrees.installer ∙ some in
-        let agrees = subst (λ log. AgreesBeside d base log logging (out io)) is
+        let agrees = subst (λ log. AgreesWithPending d base log logging (out io)) is
         (goes d base logging over.agrees) in
-        let call = subst (λ blocks. IsNextOfInstalling blocks told io.call) (sym over.behind.blocks)
+        let call = subst (λ blocks. IsNextOfInstalling blocks log_state io.call) (sym over.behind.blocks)
         (inst_call_is o.position old io logging lawful some agrees.installer.1) in (
-          subst (λ b. IsNextOfInstaller b (IsNextOfInstalling o.geometry.blocks told)
+          subst (λ b. IsNextOfInstaller b (IsNextOfInstalling o.geometry.blocks log_state)
               (Some (step.InstNext io.call))) (sym may) call,
-          ap (λ log. log_told o.position log logging (out io)) is
-              ∙ inst_taken_told o.position old io logging lawful,
+          ap (λ log. log_state_of o.position log logging (out io)) is
+              ∙ inst_taken_moves_state o.position old io logging lawful,
           subst (λ log. IsOver o base (side d log logging (out io))) (sym is)
               (record {
                 agrees = agrees;
@@ -248,8 +248,8 @@ module _ (d : Device) (old : Log) (logging : Pending) (lawful : IsLawful old) wh
         let same = is ∙ (λ i. if its_home_is_out old io its.0 its.1 i then with_inst_back old true
         else old) in (
           refl,
-          ap (λ log. log_told o.position log logging idle) same
-              ∙ inst_given_told o.position old io (Ok tt) logging lawful over.stands its.0 its.1 true,
+          ap (λ log. log_state_of o.position log logging idle) same
+              ∙ inst_given_moves_state o.position old io (Ok tt) logging lawful over.stands its.0 its.1 true,
           record {
             agrees = back d base (Ok tt) logging refl over.agrees;
             stands = subst StandsAtHome (sym same) (stands_given_back old true lawful over.stands);
@@ -261,8 +261,8 @@ module _ (d : Device) (old : Log) (logging : Pending) (lawful : IsLawful old) wh
         let same = is ∙ (λ i. if its_home_is_out old io its.0 its.1 i then with_inst_back old false
         else old) in (
           refl,
-          ap (λ log. log_told o.position log logging idle) same
-              ∙ inst_given_told o.position old io (Err (record {})) logging lawful over.stands
+          ap (λ log. log_state_of o.position log logging idle) same
+              ∙ inst_given_moves_state o.position old io (Err (record {})) logging lawful over.stands
               its.0 its.1 false,
           record {
             agrees = back d base (Err (record {})) logging refl over.agrees;
@@ -271,11 +271,11 @@ module _ (d : Device) (old : Log) (logging : Pending) (lawful : IsLawful old) wh
           },
         )
 
-inst_told_made : (position : ℕ) (log : Log) (io : Io) (logging : Pending) (ok : Bool)
-    → log_told position log logging (pending_of (Some io) (Some ok))
-    ≡ log_moved (log_told position log logging (out io)) (step.InstIo ok)
-inst_told_made position log io logging true = refl
-inst_told_made position log io logging false = refl
+inst_made_moves_log_state : (position : ℕ) (log : Log) (io : Io) (logging : Pending) (ok : Bool)
+    → log_state_of position log logging (pending_of (Some io) (Some ok))
+    ≡ log_moved (log_state_of position log logging (out io)) (step.InstIo ok)
+inst_made_moves_log_state position log io logging true = refl
+inst_made_moves_log_state position log io logging false = refl
 
 pub inst_made : (before after : Device) (log : Log) (logging : Pending) (io : Io) (result : Result Unit Failed)
     (ok : Bool) → IsLawful log → InstCallIsMade before io result after → ok ≡ is_ok result
@@ -285,9 +285,9 @@ inst_made before after log logging io result ok lawful made is o base over =
     let same : pending_of (Some io) (Some ok) ≡ was_made io result =
     ap (λ b. pending_of (Some io) (Some b)) is ∙ answer_is io result in (
       tt,
-      inst_told_made o.position log io logging ok,
+      inst_made_moves_log_state o.position log io logging ok,
       record {
-        agrees = subst (λ p. AgreesBeside after base log logging p) (sym same)
+        agrees = subst (λ p. AgreesWithPending after base log logging p) (sym same)
             (made base log logging lawful over.agrees);
         stands = over.stands;
         behind = over.behind;

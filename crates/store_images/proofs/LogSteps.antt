@@ -11,69 +11,69 @@ use Rattle.disk.specs.declared.device.Failed.{Failed}
 use Rattle.circ.specs.Log.Calls.{Pending, idle, out, was_made}
 use Rattle.circ.specs.Log.Io.{Io}
 use Rattle.txn_law.specs.Core.{CoreState}
-use Rattle.txn_law.specs.CoreWindow.{IsPending, KeepsReads}
+use Rattle.txn_law.specs.CoreWindow.{IsPending, PreservesReads}
 use Rattle.txn_law.specs.Fetch.{Fetch}
 use Rattle.txn_law.specs.Leaves.{Leaves, in_memory, is_fetching, taken_by}
-use Rattle.txn_law.specs.Records.{is_kept}
+use Rattle.txn_law.specs.Records.{is_read_by_uninstalled}
 use Rattle.store_images.proofs.HeldTaken.{held_taken}
 use Rattle.objects.specs.declared.addr.Addr.{Addr}
 use Rattle.store_promise.specs.declared.events.Step.{Step}
-use Rattle.store_promise.specs.LogTold.{LogTold}
+use Rattle.store_promise.specs.LogState.{LogState}
 use Rattle.store_promise.specs.OpenSince.{IsOpenSince}
-use Rattle.store_promise.specs.Running.{IsFetchOver, IsLogStep, IsMovedBy, KeepsPlaces, KeepsTransactions}
-use Rattle.store_promise.specs.Running.{StoreSide}
+use Rattle.store_promise.specs.Running.{IsFetchOver, IsLogStep, IsMovedBy, PreservesPlaces, PreservesTransactions}
+use Rattle.store_promise.specs.Running.{StoreState}
 use Rattle.store_promise.specs.Running.{home_next, side}
 use Rattle.store_promise.specs.Schedule.{Setting}
 use Rattle.store_promise.proofs.OpenSteps.{HasSameChanges, same_changes}
 use Rattle.store_promise.proofs.Places.{same_places, stay_placed}
-use Rattle.store_images.proofs.LogMoves.{LogSide, Tells}
-use Rattle.store_images.specs.LogSide.{pending_of}
+use Rattle.store_images.proofs.LogMoves.{LogCallState, Tells}
+use Rattle.store_images.specs.LogCallState.{pending_of}
 
-abbrev pub log_side : StoreSide → LogSide
-log_side s = record { device = s.device; log = s.core.log; logging = s.logging; installing = s.installing }
+abbrev pub log_call_state_of : StoreState → LogCallState
+log_call_state_of s = record { device = s.device; log = s.core.log; logging = s.logging; installing = s.installing }
 
 -- a step leaves the store open, with the entries that there were
-abbrev pub StaysOpen : StoreSide → Option Step → StoreSide → Type 0
+abbrev pub StaysOpen : StoreState → Option Step → StoreState → Type 0
 StaysOpen old made new = (base : Image) (boot : ℕ) (first last : Tree) (entries : List Entry)
     → IsOpenSince base old.device old.core old.logging old.installing boot first entries last
     → IsOpenSince (home_next base old.core.log made) new.device new.core new.logging new.installing boot first
     entries last
 
 -- and what was read stays what is at home
-abbrev pub KeepsFetches : StoreSide → Option Step → StoreSide → Type 0
-KeepsFetches old made new = (base : Image) (boot : ℕ) (first last : Tree) (entries : List Entry)
+abbrev pub PreservesFetches : StoreState → Option Step → StoreState → Type 0
+PreservesFetches old made new = (base : Image) (boot : ℕ) (first last : Tree) (entries : List Entry)
     (fetches : List Fetch)
     → IsOpenSince base old.device old.core old.logging old.installing boot first entries last
     → All (IsFetchOver base old.core) fetches
     → All (IsFetchOver (home_next base old.core.log made) new.core) fetches
 
 -- and each place keeps its blocks
-abbrev pub StaysPlaced : StoreSide → Option Step → StoreSide → Type 0
+abbrev pub StaysPlaced : StoreState → Option Step → StoreState → Type 0
 StaysPlaced old made new = (base : Image) (boot : ℕ) (first last : Tree) (entries : List Entry)
     → IsOpenSince base old.device old.core old.logging old.installing boot first entries last
-    → KeepsPlaces base old.core (home_next base old.core.log made) new.core
+    → PreservesPlaces base old.core (home_next base old.core.log made) new.core
 
-pub goes_on : (May : Setting → LogTold → Option Step → Type 0) (old new : StoreSide) (made : Option Step)
-    → IsMovedBy old.device made new.device → KeepsTransactions old.core new.core
-    → Tells May (log_side old) made (log_side new) → StaysOpen old made new → KeepsFetches old made new
+pub goes_on : (May : Setting → LogState → Option Step → Type 0) (old new : StoreState) (made : Option Step)
+    → IsMovedBy old.device made new.device → PreservesTransactions old.core new.core
+    → Tells May (log_call_state_of old) made (log_call_state_of new) → StaysOpen old made new → PreservesFetches old made new
     → StaysPlaced old made new → IsLogStep May old made new
-goes_on May old new made moved kept tells opened fetched placed = record {
+goes_on May old new made moved is_preserved tells opened fetched placed = record {
   device = moved;
-  core = kept;
+  core = is_preserved;
   runs = λ o base fetches boot first last entries run.
-      let told = tells o base (record {
+      let step_facts = tells o base (record {
         agrees = run.since.over.agrees;
         stands = run.stands;
         behind = record { position = run.position; blocks = run.blocks };
       }) in record {
-        may = told.0;
-        told = told.1;
+        may = step_facts.0;
+        log_follows = step_facts.1;
         running = record {
           since = opened base boot first last entries run.since;
-          position = told.2.behind.position;
-          blocks = told.2.behind.blocks;
-          stands = told.2.stands;
-          inodes = run.inodes ∙ sym kept.inodes;
+          position = step_facts.2.behind.position;
+          blocks = step_facts.2.behind.blocks;
+          stands = step_facts.2.stands;
+          inodes = run.inodes ∙ sym is_preserved.inodes;
           newest = run.newest;
           fetched = fetched base boot first last entries fetches run.since run.fetched;
           placed = stay_placed o base (home_next base old.core.log made) old.core new.core
@@ -84,7 +84,7 @@ goes_on May old new made moved kept tells opened fetched placed = record {
 
 -- ---- what transactions have
 
-pub same_transactions : (core : CoreState) → KeepsTransactions core core
+pub same_transactions : (core : CoreState) → PreservesTransactions core core
 same_transactions core = record {
   inodes = refl;
   begun = refl;
@@ -95,10 +95,10 @@ same_transactions core = record {
   loaded = λ tx addr content some there. there;
 }
 
-pub log_alone : (old new : CoreState) (log_calls inst_calls : ℕ)
+pub only_log : (old new : CoreState) (log_calls inst_calls : ℕ)
     → new ≡ record old { log = new.log; log_calls = log_calls; inst_calls = inst_calls }
-    → ((tx : ℕ) → KeepsReads old new tx) → KeepsTransactions old new
-log_alone old new log_calls inst_calls is stays = record {
+    → ((tx : ℕ) → PreservesReads old new tx) → PreservesTransactions old new
+only_log old new log_calls inst_calls is stays = record {
   inodes = ap (λ (c : CoreState). c.inodes) is;
   begun = ap (λ (c : CoreState). c.begun) is;
   out = ap (λ (c : CoreState). c.out) is;
@@ -114,23 +114,23 @@ pub still_loaded : (old new : CoreState)
     (addr : Addr) (content : Content) → is_some (taken_by old tx addr) ≡ true
     → in_memory old addr.block ≡ Some content → in_memory new addr.block ≡ Some content
 still_loaded old new leaves tx addr content some there = leaves.stays addr.block content there
-    (ap (λ (t : Bool). t || is_kept new.records addr.block)
+    (ap (λ (t : Bool). t || is_read_by_uninstalled new.records addr.block)
     (held_taken new.holds tx addr addr.block refl (ap is_some (leaves.holds tx addr) ∙ some)))
 
-pub fewer : (old new : CoreState) → KeepsTransactions old new → (block : BlockNo) → IsPending new block
+pub fewer : (old new : CoreState) → PreservesTransactions old new → (block : BlockNo) → IsPending new block
     → IsPending old block
-fewer old new kept block pending = sym (kept.fetches block) ∙ pending
+fewer old new is_preserved block pending = sym (is_preserved.fetches block) ∙ pending
 
 -- ---- what the places have
 
-pub same_core_places : (base : Image) (core : CoreState) → KeepsPlaces base core base core
+pub same_core_places : (base : Image) (core : CoreState) → PreservesPlaces base core base core
 same_core_places base core = same_places base core core
     (record { log = same_changes core.log core.log refl; inodes = refl; records = refl; boot = refl })
 
 -- a step that changes nothing of the log but what it has out keeps the places
 pub log_places : (base : Image) (old new : CoreState) (log_calls inst_calls : ℕ)
     → new ≡ record old { log = new.log; log_calls = log_calls; inst_calls = inst_calls }
-    → HasSameChanges old.log new.log → KeepsPlaces base old base new
+    → HasSameChanges old.log new.log → PreservesPlaces base old base new
 log_places base old new log_calls inst_calls is log = same_places base old new (record {
   log = log;
   inodes = ap (λ (c : CoreState). c.inodes) is;
@@ -140,8 +140,8 @@ log_places base old new log_calls inst_calls is log = same_places base old new (
 
 -- ---- no step
 
-pub no_step : (May : Setting → LogTold → Option Step → Type 0) (s : StoreSide)
-    → IsMovedBy s.device None s.device → Tells May (log_side s) None (log_side s) → IsLogStep May s None s
+pub no_step : (May : Setting → LogState → Option Step → Type 0) (s : StoreState)
+    → IsMovedBy s.device None s.device → Tells May (log_call_state_of s) None (log_call_state_of s) → IsLogStep May s None s
 no_step May s moved tells = goes_on May s s None moved (same_transactions s.core) tells
     (λ base boot first last entries since. since) (λ base boot first last entries fetches since all. all)
     (λ base boot first last entries since. same_core_places base s.core)
@@ -159,21 +159,21 @@ pub some_made : (io : Option Io) (made : Option Bool) (call : Io) (ok : Bool) �
     → pending_of io made ≡ pending_of (Some call) (Some ok)
 some_made io made call ok some was = ap (λ i. pending_of i made) some ∙ ap (λ m. pending_of (Some call) m) was
 
-module _ (May : Setting → LogTold → Option Step → Type 0) (made : Option Step) (d e : Device)
-    (core new : CoreState) (beside : Pending) where
+module _ (May : Setting → LogState → Option Step → Type 0) (made : Option Step) (d e : Device)
+    (core new : CoreState) (other_pending : Pending) where
   pub of_logger : (before after was is : Pending) → was ≡ before → is ≡ after
-      → IsLogStep May (side d core before beside) made (side e new after beside)
-      → IsLogStep May (side d core was beside) made (side e new is beside)
+      → IsLogStep May (side d core before other_pending) made (side e new after other_pending)
+      → IsLogStep May (side d core was other_pending) made (side e new is other_pending)
   of_logger before after was is was_is is_is steps =
-      subst (λ p. IsLogStep May (side d core p beside) made (side e new is beside)) (sym was_is)
-      (subst (λ p. IsLogStep May (side d core before beside) made (side e new p beside)) (sym is_is) steps)
+      subst (λ p. IsLogStep May (side d core p other_pending) made (side e new is other_pending)) (sym was_is)
+      (subst (λ p. IsLogStep May (side d core before other_pending) made (side e new p other_pending)) (sym is_is) steps)
 
   pub of_installer : (before after was is : Pending) → was ≡ before → is ≡ after
-      → IsLogStep May (side d core beside before) made (side e new beside after)
-      → IsLogStep May (side d core beside was) made (side e new beside is)
+      → IsLogStep May (side d core other_pending before) made (side e new other_pending after)
+      → IsLogStep May (side d core other_pending was) made (side e new other_pending is)
   of_installer before after was is was_is is_is steps =
-      subst (λ p. IsLogStep May (side d core beside p) made (side e new beside is)) (sym was_is)
-      (subst (λ p. IsLogStep May (side d core beside before) made (side e new beside p)) (sym is_is) steps)
+      subst (λ p. IsLogStep May (side d core other_pending p) made (side e new other_pending is)) (sym was_is)
+      (subst (λ p. IsLogStep May (side d core other_pending before) made (side e new other_pending p)) (sym is_is) steps)
 
 -- what the device answered, by whether it was Ok
 pub answered : (io : Io) (ok : Bool)

@@ -18,17 +18,17 @@ use Rattle.wal_calls.proofs.CallersLemmas.Made.{made_later}
 use Rattle.wal_calls.specs.Callers.Making.{IsAnswered}
 use Rattle.wal_calls.specs.Callers.OneCall.{MakesOne}
 use Rattle.wal_calls.specs.Callers.Steps.{InstGoesOut, LogComesBack, LogGoesOut, comes_back, goes_out}
-use Rattle.store_promise.specs.Running.{KeepsPlaces, KeepsTransactions, at_rest}
+use Rattle.store_promise.specs.Running.{PreservesPlaces, PreservesTransactions, at_rest}
 use Rattle.store_promise.proofs.OpenSteps.{HasSameChanges, inst_out_same, log_given_same, log_out_same}
 use Rattle.store_images.specs.Further.{IsFurther}
 use Rattle.store_images.specs.Counts.{SameFrame}
-use Rattle.store_images.specs.LogSide.{side_with}
+use Rattle.store_images.specs.LogCallState.{store_state_with}
 use Rattle.store_images.specs.Settling.{HasCalled, IsQuiet, IsTurnOf, SameNumbers}
 use Rattle.store_images.proofs.CallsEnd.{EndsSo, inst_ends, log_ends}
 use Rattle.store_images.proofs.CallsLeft.{inst_called, log_called}
-use Rattle.store_images.proofs.LogSteps.{log_alone, log_places, still_loaded}
+use Rattle.store_images.proofs.LogSteps.{only_log, log_places, still_loaded}
 use Rattle.store_images.proofs.SettlingCalls.{Nears, inst_nears, log_nears}
-use Rattle.store_images.proofs.StillOpen.{kept_then}
+use Rattle.store_images.proofs.StillOpen.{preserved_then}
 
 -- ---- what transactions have, and what the places have
 
@@ -42,16 +42,16 @@ inst_goes : (old new : CoreState) (io : Io) → InstGoesOut old io new
 inst_goes old new io goes = goes.core
     ∙ ap (λ (log : Log). record (with_inst_call old) { log = log }) (sym (ap (λ (core : CoreState). core.log) goes.core))
 
-pub out_kept : (of : Side) (old new : CoreState) (io : Io) → goes_out of old io new → KeepsTransactions old new
-out_kept sides.Log old new io goes =
-    log_alone old new (old.log_calls + 1) old.inst_calls (log_goes old new io goes) goes.reads
-out_kept sides.Home old new io goes =
-    log_alone old new old.log_calls (old.inst_calls + 1) (inst_goes old new io goes) goes.reads
+pub out_preserved : (of : Side) (old new : CoreState) (io : Io) → goes_out of old io new → PreservesTransactions old new
+out_preserved sides.Log old new io goes =
+    only_log old new (old.log_calls + 1) old.inst_calls (log_goes old new io goes) goes.reads
+out_preserved sides.Home old new io goes =
+    only_log old new old.log_calls (old.inst_calls + 1) (inst_goes old new io goes) goes.reads
 
-pub back_kept : (of : Side) (old new : CoreState) (io : Io) (ok : Bool) → comes_back of old io ok new
-    → KeepsTransactions old new
-back_kept sides.Log old new io ok back = log_alone old new old.log_calls old.inst_calls back.core back.reads
-back_kept sides.Home old new io ok back = record {
+pub back_preserved : (of : Side) (old new : CoreState) (io : Io) (ok : Bool) → comes_back of old io ok new
+    → PreservesTransactions old new
+back_preserved sides.Log old new io ok back = only_log old new old.log_calls old.inst_calls back.core back.reads
+back_preserved sides.Home old new io ok back = record {
   inodes = ap (λ (core : CoreState). core.inodes) back.core;
   begun = ap (λ (core : CoreState). core.begun) back.core;
   out = ap (λ (core : CoreState). core.out) back.core;
@@ -62,7 +62,7 @@ back_kept sides.Home old new io ok back = record {
 }
 
 pub out_placed : (of : Side) (base : Image) (old new : CoreState) (io : Io) → goes_out of old io new
-    → KeepsPlaces base old base new
+    → PreservesPlaces base old base new
 out_placed sides.Log base old new io goes =
     log_places base old new (old.log_calls + 1) old.inst_calls (log_goes old new io goes)
     (subst (HasSameChanges old.log) (sym (ap (λ (core : CoreState). core.log) goes.core)) (log_out_same old.log))
@@ -71,12 +71,12 @@ out_placed sides.Home base old new io goes =
     (subst (HasSameChanges old.log) (sym (ap (λ (core : CoreState). core.log) goes.core)) (inst_out_same old.log))
 
 pub back_placed : (base : Image) (old new : CoreState) (io : Io) (ok : Bool) → LogComesBack old io ok new
-    → KeepsPlaces base old base new
+    → PreservesPlaces base old base new
 back_placed base old new io ok back = log_places base old new old.log_calls old.inst_calls back.core
     (subst (HasSameChanges old.log) (sym back.log) (log_given_same old.log (is_log_out old.log io) ok))
 
 -- the same store, where neither side has a call out
-pub at_rest_is : (of : Side) (d : Device) (core : CoreState) → side_with of d core idle idle ≡ at_rest d core
+pub at_rest_is : (of : Side) (d : Device) (core : CoreState) → store_state_with of d core idle idle ≡ at_rest d core
 at_rest_is sides.Log d core = refl
 at_rest_is sides.Home d core = refl
 
@@ -86,7 +86,7 @@ at_rest_is sides.Home d core = refl
 pub record HasMadeOne (of : Side) (old new : CoreState) (before after : Device) : Type 0 where
   pub later : OneLater before after
   pub called : HasCalled old.log before new.log after
-  pub kept : KeepsTransactions old new
+  pub is_preserved : PreservesTransactions old new
   pub frame : SameFrame old new
   pub further : IsFurther old new
   pub numbers : SameNumbers old new
@@ -146,27 +146,27 @@ module _ (is_plan : ℕ → ℕ → List ObjectBytes → List ObjectBytes → Ty
         → HasMadeOne of old new before after
     made_one of one size quiet =
         let is = answered of one size in
-        let kept = kept_then old one.mid new (out_kept of old one.mid one.io one.goes)
-        (back_kept of one.mid new one.io one.ok one.back) in
+        let is_preserved = preserved_then old one.mid new (out_preserved of old one.mid one.io one.goes)
+        (back_preserved of one.mid new one.io one.ok one.back) in
         let on = goes_on of one in
         let end = ends of one quiet in
         record {
           later = made_later before one.io is.answer after is.call;
           called = called of one is;
-          kept = kept;
+          is_preserved = is_preserved;
           frame = record {
             blocks = on.1.blocks ∙ on.0.blocks;
-            inodes = kept.inodes;
+            inodes = is_preserved.inodes;
             log_out = end.log_out;
             inst_out = end.inst_out;
           };
           further = record {
-            begun = let same = kept.begun in omega (arith, same);
+            begun = let same = is_preserved.begun in omega (arith, same);
             places = let first = on.0.places in let last = on.1.places in omega (arith, first, last);
             positions = let same = end.positions in omega (arith, same);
             settled = let first = on.0.settled in let last = on.1.settled in omega (arith, first, last);
             broken = λ is. on.1.broken (on.0.broken is);
           };
-          numbers = record { begun = kept.begun; places = on.1.places ∙ on.0.places };
+          numbers = record { begun = is_preserved.begun; places = on.1.places ∙ on.0.places };
           nears = nears of one quiet.logging;
         }

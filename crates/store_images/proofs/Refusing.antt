@@ -9,8 +9,8 @@ use Rattle.layout.specs.declared.super_block.Super.{Super}
 use Rattle.layout.specs.SuperForm.{IsSuper}
 use Rattle.circ.specs.Log.Log.{Log, opened}
 use Rattle.circ.specs.Log.Overlay.{HasHomes, IsInRange, logged_in, start_in}
-use Rattle.circ.specs.Log.Recovery.{HasOnlyRead, IsUnspoiled, image_of}
-use Rattle.circ.proofs.LogLemmas.OnlyRead.{image_then, reads_then, unspoiled_then}
+use Rattle.circ.specs.Log.Recovery.{HasOnlyRead, IsCertain, image_of}
+use Rattle.circ.proofs.LogLemmas.OnlyRead.{image_then, reads_then, certain_then}
 use Rattle.store_promise.specs.declared.fault.OpenFault.{OpenFault}
 use Rattle.store_promise.specs.declared.fault.OpenFault.TheVariants as fault
 use Rattle.store_promise.specs.Openings.{IsRefusedFor, ShowsNoCause}
@@ -22,20 +22,20 @@ use Rattle.store_images.specs.BringingHome.{CountsCause, HasNoLog, HasNoSuper, I
 pub no_super : (keeps_model : Type 0) (cause : OpenFault) (before later : Device) (size : ℕ) (content : Content)
     → HasNoSuper cause size content → HasOnlyRead before later → later.failures ≡ before.failures
     → size ≡ before.size
-    → (keeps_model → IsUnspoiled before → content ≡ image_of before SUPER_BLOCK)
+    → (keeps_model → IsCertain before → content ≡ image_of before SUPER_BLOCK)
     → IsRefusedFor keeps_model cause before later
 no_super keeps_model fault.Magic before later size content none reads same sizes read = (
   record { only = reads; failures = same },
-  λ kept clean. inr (subst (HasNoSuper fault.Magic size) (read kept clean) none),
+  λ is_preserved clean. inr (subst (HasNoSuper fault.Magic size) (read is_preserved clean) none),
 )
 no_super keeps_model fault.Version before later size content none reads same sizes read = (
   record { only = reads; failures = same },
-  λ kept clean. subst (HasNoSuper fault.Version size) (read kept clean) none,
+  λ is_preserved clean. subst (HasNoSuper fault.Version size) (read is_preserved clean) none,
 )
 no_super keeps_model fault.Range before later size content none reads same sizes read = (
   record { only = reads; failures = same },
-  λ kept clean. subst (λ (n : ℕ). HasNoSuper fault.Range n (image_of before SUPER_BLOCK)) sizes
-      (subst (HasNoSuper fault.Range size) (read kept clean) none),
+  λ is_preserved clean. subst (λ (n : ℕ). HasNoSuper fault.Range n (image_of before SUPER_BLOCK)) sizes
+      (subst (HasNoSuper fault.Range size) (read is_preserved clean) none),
 )
 no_super keeps_model fault.Log before later size content none reads same sizes read = absurd none
 no_super keeps_model fault.Device before later size content none reads same sizes read = absurd none
@@ -46,7 +46,7 @@ pub refused_by : {A : Type 0} (keeps_model : Type 0) (result : Result A OpenFaul
     (before later : Device) (size : ℕ) (content : Content)
     → IfErr result (λ cause. HasNoSuper cause size content) → HasOnlyRead before later
     → later.failures ≡ before.failures → size ≡ before.size
-    → (keeps_model → IsUnspoiled before → content ≡ image_of before SUPER_BLOCK)
+    → (keeps_model → IsCertain before → content ≡ image_of before SUPER_BLOCK)
     → IfErr result (λ cause. IsRefusedFor keeps_model cause before later)
 refused_by keeps_model (Ok _) before later size content none reads same sizes read = tt
 refused_by keeps_model (Err cause) before later size content none reads same sizes read =
@@ -58,20 +58,20 @@ module _ (keeps_model : Type 0) (before middle later : Device) (found : Super)
     (first : HasOnlyRead before middle) (second : HasOnlyRead middle later)
     (blocks : found.geometry.blocks ≡ before.size)
     (left : found.boot + 1 < 2 ^ 64)
-    (is_super : keeps_model → IsUnspoiled before → IsSuper (image_of before SUPER_BLOCK) found) where
+    (is_super : keeps_model → IsCertain before → IsSuper (image_of before SUPER_BLOCK) found) where
   image_is : image_of middle ≡ image_of before
   image_is = λ i block. image_then before middle first block i
 
   -- no log was found
   pub no_log : (cause : OpenFault)
-      → HasNoLog (keeps_model × IsUnspoiled middle) cause found.geometry.blocks (image_of middle)
+      → HasNoLog (keeps_model × IsCertain middle) cause found.geometry.blocks (image_of middle)
       → CountsCause cause middle later → middle.failures ≡ before.failures
       → IsRefusedFor keeps_model cause before later
   no_log fault.Log none counted same = (
     record { only = reads_then before middle later first second; failures = counted ∙ same },
-    λ kept clean. (
-      (found, is_super kept clean, blocks, left),
-      λ is. none (kept, unspoiled_then before middle first clean) (subst IsInRange (sym image_is) is.0)
+    λ is_preserved clean. (
+      (found, is_super is_preserved clean, blocks, left),
+      λ is. none (is_preserved, certain_then before middle first clean) (subst IsInRange (sym image_is) is.0)
           (subst (λ (size : ℕ). HasHomes size (image_of middle)) (sym blocks)
           (subst (HasHomes before.size) (sym image_is) is.1)),
     ),
@@ -87,12 +87,12 @@ module _ (keeps_model : Type 0) (before middle later : Device) (found : Super)
 
   -- the log was found
   pub is_found : (log : Log)
-      → IsFoundLog (keeps_model × IsUnspoiled middle) found.geometry.blocks (image_of middle) log
-      → keeps_model → IsUnspoiled before → IsFound before found log
-  is_found log is kept clean =
-      let was_read : keeps_model × IsUnspoiled middle = (kept, unspoiled_then before middle first clean) in
+      → IsFoundLog (keeps_model × IsCertain middle) found.geometry.blocks (image_of middle) log
+      → keeps_model → IsCertain before → IsFound before found log
+  is_found log is is_preserved clean =
+      let was_read : keeps_model × IsCertain middle = (is_preserved, certain_then before middle first clean) in
       record {
-        is_super = is_super kept clean;
+        is_super = is_super is_preserved clean;
         range = subst IsInRange image_is (is.range was_read);
         homes = subst (λ (size : ℕ). HasHomes size (image_of before)) blocks
             (subst (HasHomes found.geometry.blocks) image_is (is.homes was_read));

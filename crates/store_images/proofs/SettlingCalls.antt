@@ -55,8 +55,8 @@ tail_taken all logged made installing inst_step some within =
     let joined = joined_left rest tail in
     let same : (logged + tail) - installing ≡ rest + tail = omega (arith, within) in
     let none : all - (logged + tail) ≡ 0 = omega (arith, some) in
-    let alone : logged + 0 ≡ logged = omega arith in
-    rw (same, none, alone) (omega (arith, joined))
+    let logged_plus_none : logged + 0 ≡ logged = omega arith in
+    rw (same, none, logged_plus_none) (omega (arith, joined))
 
 -- ---- the logger
 
@@ -171,7 +171,7 @@ nears_by old out made new sound first later true is = record {
 nears_by old out made new sound first later false is = record {
   sound = sound;
   some = omega (arith, first, later);
-  nearer = λ kept. absurd (true≢false (sym (ap (λ (l : Log). l.broken) is) ∙ kept));
+  nearer = λ is_preserved. absurd (true≢false (sym (ap (λ (l : Log). l.broken) is) ∙ is_preserved));
 }
 
 log_back : (log : Log) → IsLawful log → may_log log ≡ true → IsLawful (with_log_out log) → (ok : Bool)

@@ -10,14 +10,14 @@ use Rattle.store_promise.specs.Openings.{IsLater}
 use Rattle.circ.specs.Log.Calls.{Pending, idle}
 use Rattle.circ.specs.Log.Log.{settled_place}
 use Rattle.disk.specs.Blocks.{AreBlocks}
-use Rattle.store_promise.specs.OpenSince.{HasKeptFiles, IsOpenSince, KeepsFiles, LeavesBeginning}
-use Rattle.store_images.specs.SettlingStops.{AfterCall, GoesByCalls, KeepsPrefixes, StayOpen}
+use Rattle.store_promise.specs.OpenSince.{HasPreservedFiles, IsOpenSince, PreservesFiles, LeavesBeginning}
+use Rattle.store_images.specs.SettlingStops.{AfterCall, GoesByCalls, PreservesPrefixes, StayOpen}
 use Rattle.store_promise.proofs.Later.{past_more, past_none}
 use Rattle.store_images.proofs.Later.{earlier, some_image}
 
 -- nothing was left yet
 pub none_left : (d : Device) (boot : ℕ) (first : Tree) (entries : List Entry) (settled : ℕ)
-    → HasKeptFiles d d boot first entries settled
+    → HasPreservedFiles d d boot first entries settled
 none_left d boot first entries settled = λ clock image above below is. absurd (omega (arith, above, below))
 
 -- so it is where no call was made
@@ -52,11 +52,11 @@ fewer_last size boot settled more first entries image few left = record {
 }
 
 -- a later part of the past behind an earlier one
-pub kept_along : (before mid later : Device) (boot settled more : ℕ) (first : Tree) (entries : List Entry)
+pub preserved_along : (before mid later : Device) (boot settled more : ℕ) (first : Tree) (entries : List Entry)
     → IsLater before mid → IsLater mid later → settled ≤ more
-    → HasKeptFiles before mid boot first entries settled
-    → HasKeptFiles mid later boot first entries more → HasKeptFiles before later boot first entries settled
-kept_along before mid later boot settled more first entries one two few was then_ =
+    → HasPreservedFiles before mid boot first entries settled
+    → HasPreservedFiles mid later boot first entries more → HasPreservedFiles before later boot first entries settled
+preserved_along before mid later boot settled more first entries one two few was then_ =
     λ clock image above below is. elim (cases_order clock mid.clock) [
       | inl at ↦ fewer_last later.size boot settled more first entries image few
           (then_ clock image (omega (arith, at)) below is)
@@ -86,7 +86,7 @@ stay_along before mid later old core new one two = λ base boot first last entri
     let second = two first_part.base boot first last entries first_part.since in
     record {
       past = past_more before mid later first_part.past second.past;
-      left = kept_along before mid later boot _ _ first entries first_part.past second.past first_part.further
+      left = preserved_along before mid later boot _ _ first entries first_part.past second.past first_part.further
           first_part.left second.left;
       further = omega (arith, first_part.further, second.further);
       calls = first_part.calls ++ second.calls;
@@ -99,17 +99,17 @@ stay_along before mid later old core new one two = λ base boot first last entri
 -- ---- the end
 
 -- each stop leaves a beginning, by the laws on a store that is open
-pub prefixes_kept : (before later : Device) (old new : CoreState) → AreBlocks later
+pub prefixes_preserved : (before later : Device) (old new : CoreState) → AreBlocks later
     → ((before d : Device) (base : Image) (core : CoreState) (logging installing : Pending) (boot settled : ℕ)
-    (first last : Tree) (entries : List Entry) → HasKeptFiles before d boot first entries settled
+    (first last : Tree) (entries : List Entry) → HasPreservedFiles before d boot first entries settled
     → IsOpenSince base d core logging installing boot first entries last → settled ≤ settled_place core.log
-    → KeepsFiles before d boot first entries settled)
+    → PreservesFiles before d boot first entries settled)
     → ((base : Image) (d : Device) (core : CoreState) (logging installing : Pending) (boot : ℕ)
     (first last : Tree)
     (entries : List Entry) (image : Image) → IsOpenSince base d core logging installing boot first entries last
     → IsCrashImage d d.clock image → LeavesBeginning d.size boot first entries (settled_place core.log) image)
-    → StayOpen before old later new → KeepsPrefixes before old later new
-prefixes_kept before later old new blocks now stop stays = λ base boot first last entries since.
+    → StayOpen before old later new → PreservesPrefixes before old later new
+prefixes_preserved before later old new blocks now stop stays = λ base boot first last entries since.
     let is = stays base boot first last entries since in
     record {
       past = is.past;
@@ -125,10 +125,10 @@ prefixes_kept before later old new blocks now stop stays = λ base boot first la
     }
 
 -- what a settling keeps, as long as it goes on
-pub stays_of : (before later : Device) (old new : CoreState) → KeepsPrefixes before old later new
+pub stays_of : (before later : Device) (old new : CoreState) → PreservesPrefixes before old later new
     → StayOpen before old later new
-stays_of before later old new keeps = λ base boot first last entries since.
-    let is = keeps base boot first last entries since in
+stays_of before later old new preserves = λ base boot first last entries since.
+    let is = preserves base boot first last entries since in
     record {
       past = is.past;
       left = λ clock image above below crash. is.stops clock image above (omega (arith, below)) crash;
@@ -141,8 +141,8 @@ stays_of before later old new keeps = λ base boot first last entries since.
 
 -- what each stop leaves, of a later part behind an earlier one
 pub stops_along : (before mid later : Device) (boot settled more : ℕ) (first : Tree) (entries : List Entry)
-    → IsLater mid later → settled ≤ more → HasKeptFiles before mid boot first entries settled
-    → KeepsFiles mid later boot first entries more → KeepsFiles before later boot first entries settled
+    → IsLater mid later → settled ≤ more → HasPreservedFiles before mid boot first entries settled
+    → PreservesFiles mid later boot first entries more → PreservesFiles before later boot first entries settled
 stops_along before mid later boot settled more first entries two few was then_ =
     λ clock image above below is. elim (cases_order clock mid.clock) [
       | inl at ↦ fewer_last later.size boot settled more first entries image few

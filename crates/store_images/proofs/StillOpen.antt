@@ -2,8 +2,8 @@
 use Rattle.std.proofs.Common.{arith, ◌≡◌, ◌∙◌, subst, ap, inl, inr, Option, is_some}
 use Rattle.disk.specs.Device.{Device}
 use Rattle.txn_law.specs.Core.{CoreState}
-use Rattle.store_promise.specs.LogTold.{LogTold}
-use Rattle.store_promise.specs.Running.{IsLogStep, KeepsTransactions, StoreSide, at_rest, home_next}
+use Rattle.store_promise.specs.LogState.{LogState}
+use Rattle.store_promise.specs.Running.{IsLogStep, PreservesTransactions, StoreState, at_rest, home_next}
 use Rattle.store_promise.specs.Schedule.{Setting}
 use Rattle.store_promise.specs.declared.events.Step.{Step}
 use Rattle.store_images.specs.Further.{IsFurther, LeavesOpen}
@@ -34,8 +34,8 @@ further_then a b c one two = record {
 
 -- ---- what transactions have
 
-pub kept_then : (a b c : CoreState) → KeepsTransactions a b → KeepsTransactions b c → KeepsTransactions a c
-kept_then a b c one two = record {
+pub preserved_then : (a b c : CoreState) → PreservesTransactions a b → PreservesTransactions b c → PreservesTransactions a c
+preserved_then a b c one two = record {
   inodes = two.inodes ∙ one.inodes;
   begun = two.begun ∙ one.begun;
   out = two.out ∙ one.out;
@@ -62,7 +62,7 @@ same_open d core = record {
 pub open_then : (d e f : Device) (a b c : CoreState) → LeavesOpen d a e b → LeavesOpen e b f c
     → LeavesOpen d a f c
 open_then d e f a b c one two = record {
-  core = kept_then a b c one.core two.core;
+  core = preserved_then a b c one.core two.core;
   further = further_then a b c one.further two.further;
   past = past_more d e f one.past two.past;
   failures = let x = one.failures in let y = two.failures in omega (arith, x, y);
@@ -73,16 +73,16 @@ open_then d e f a b c one two = record {
 }
 
 -- three steps of the log's side make a call: it is taken, made and given back
-pub open_by : (May Make Give : Setting → LogTold → Option Step → Type 0) (d e : Device) (old new : CoreState)
-    (first out back last : StoreSide) → first ≡ at_rest d old → last ≡ at_rest e new
+pub open_by : (May Make Give : Setting → LogState → Option Step → Type 0) (d e : Device) (old new : CoreState)
+    (first out back last : StoreState) → first ≡ at_rest d old → last ≡ at_rest e new
     → (one two three : Option Step) → IsLogStep May first one out
     → IsLogStep Make out two back → IsLogStep Give back three last → IsFurther old new
     → HasCalled old.log d new.log e → LeavesOpen d old e new
 open_by May Make Give d e old new first out back last first_is last_is one two three goes made comes further called =
-    let taken = subst (λ (s : StoreSide). IsLogStep May s one out) first_is goes in
-    let given = subst (λ (s : StoreSide). IsLogStep Give back three s) last_is comes in
+    let taken = subst (λ (s : StoreState). IsLogStep May s one out) first_is goes in
+    let given = subst (λ (s : StoreState). IsLogStep Give back three s) last_is comes in
     record {
-      core = kept_then old out.core new taken.core (kept_then out.core back.core new made.core given.core);
+      core = preserved_then old out.core new taken.core (preserved_then out.core back.core new made.core given.core);
       further = further;
       past = called.past;
       failures = called.counted;

@@ -8,7 +8,7 @@ use Rattle.layout.specs.declared.super_block.Super.{Super}
 use Rattle.layout.specs.declared.fault.LayoutFault.TheVariants as layout_fault
 use Rattle.layout.specs.Newest.{newest}
 use Rattle.layout.specs.SuperForm.{IsNoSuper, IsSuper, super_bytes}
-use Rattle.circ.specs.Log.Calls.{AgreesBeside, idle}
+use Rattle.circ.specs.Log.Calls.{AgreesWithPending, idle}
 use Rattle.circ.specs.Log.Law.{IsOutside, with_changes}
 use Rattle.circ.specs.Log.Log.{Log, opened}
 use Rattle.circ.specs.Log.Overlay.{HasHomes, IsInRange, logged_in, over, start_in}
@@ -35,7 +35,7 @@ pub record HasBlocksOf (size : ℕ) (first : Image) (super : Content) (image : I
 -- the one laid over the other makes the blocks of that image.
 pub record IsComingHome (first : Image) (now : Device) (log : Log) : Type 0 where
   pub base : Image
-  pub agrees : AgreesBeside now base log idle idle
+  pub agrees : AgreesWithPending now base log idle idle
   pub whole : AreBlocks log.blocks base
   pub blocks : (block : ℕ) → IsOutside log.blocks block → with_changes base log.changes block ≡ over first block
   pub super_is : base SUPER_BLOCK ≡ first SUPER_BLOCK
@@ -44,14 +44,14 @@ pub record IsComingHome (first : Image) (now : Device) (log : Log) : Type 0 wher
 
 -- the same, with the super block of the first image or with a raised one
 abbrev pub HasBlocksWith : ℕ → Image → Content → Image → Type 0
-HasBlocksWith size first raised image =
-    HasBlocksOf size first (first SUPER_BLOCK) image ⊎ HasBlocksOf size first raised image
+HasBlocksWith size first incremented image =
+    HasBlocksOf size first (first SUPER_BLOCK) image ⊎ HasBlocksOf size first incremented image
 
 -- Whatever a stop has left since has the blocks of the image before, with its super block or with the raised
 -- one.
-pub record KeepsBlocks (before now : Device) (raised : Content) : Type 0 where
+pub record PreservesBlocks (before now : Device) (incremented : Content) : Type 0 where
   pub past : IsLater before now
-  pub stops : AtEachStop before now (λ at image. HasBlocksWith now.size (image_of before) raised image)
+  pub stops : AtEachStop before now (λ at image. HasBlocksWith now.size (image_of before) incremented image)
 
 -- What an opening found by reading alone: the super block, of a device of its size and with a boot number
 -- left, and the log that lies on the image.
@@ -76,18 +76,18 @@ next_super found = record { geometry = newest found.geometry; boot = found.boot 
 abbrev pub LeavesImage : Device → Device → Type 0
 LeavesImage before later = HasOnlyRead before later
     ⊎ ((found : Super) × IsSuper (image_of before SUPER_BLOCK) found
-    × KeepsBlocks before later (super_bytes (next_super found)))
+    × PreservesBlocks before later (super_bytes (next_super found)))
 
 -- What comes home, and what each stop so far has left.
-pub record BringsHome (before : Device) (raised : Content) (now : Device) (log : Log) : Type 0 where
+pub record BringsHome (before : Device) (incremented : Content) (now : Device) (log : Log) : Type 0 where
   pub coming : IsComingHome (image_of before) now log
-  pub keeps : KeepsBlocks before now raised
+  pub preserves : PreservesBlocks before now incremented
 
 -- The last two calls of an opening: the super block was written, and settled.
-pub record HasRaised (before : Device) (raised : Content) (now later : Device) (log : Log) : Type 0 where
+pub record HasIncremented (before : Device) (incremented : Content) (now later : Device) (log : Log) : Type 0 where
   pub written : Device
-  pub brings : BringsHome before raised now log
-  pub write : HasWritten now SUPER_BLOCK raised (Ok tt) written
+  pub brings : BringsHome before incremented now log
+  pub write : HasWritten now SUPER_BLOCK incremented (Ok tt) written
   pub settle : HasSettled written Home (Ok tt) later
 
 -- the fault tells of a device call just where one failed

@@ -15,5 +15,5 @@ abbrev pub FetchesOnly : Option Fetch → CoreState → Type 0
 FetchesOnly io core = (block : BlockNo) → is_fetching core block ≡ is_fetch_of io block
 
 -- the fetches that are pending stay
-abbrev pub KeepsFetches : CoreState → CoreState → Type 0
-KeepsFetches old new = (block : BlockNo) → is_fetching new block ≡ is_fetching old block
+abbrev pub PreservesFetches : CoreState → CoreState → Type 0
+PreservesFetches old new = (block : BlockNo) → is_fetching new block ≡ is_fetching old block

@@ -11,8 +11,8 @@ use Rattle.layout.specs.Fresh.{fresh}
 use Rattle.layout.specs.Geometry.{IsLawful, IsLawfulCount, IsLawfulSize, data_at}
 use Rattle.store_promise.specs.Openings.{AtEachStop, HasFailedToFormat, IsFormatted, IsLater}
 use Rattle.store_promise.specs.Openings.{IsLeftByFormat}
-use Rattle.store_images.specs.declared.formatting.FormatFault.{FormatFault}
-use Rattle.store_images.specs.declared.formatting.FormatFault.TheVariants as fault
+use Rattle.store_images.specs.declared.formatter.FormatFault.{FormatFault}
+use Rattle.store_images.specs.declared.formatter.FormatFault.TheVariants as fault
 
 -- the block has a slot of the log
 abbrev pub is_slot : ℕ → Bool
@@ -40,7 +40,7 @@ pub record HasWrittenUpTo (old : Device) (g : Geometry) (moment : Moment) (end :
       → IsNewest new number (fresh g moment number)
   pub before : (number : ℕ) → number < FIRST_HOME_BLOCK → current new number ≡ current old number
   pub behind : (number : ℕ) → end ≤ number → current new number ≡ current old number
-  pub spoiled : (number : ℕ) → new.spoiled number ≡ old.spoiled number
+  pub uncertain : (number : ℕ) → new.uncertain number ≡ old.uncertain number
 
 -- the device went on, and left the super block what it was
 pub record LeavesSuper (old new : Device) : Type 0 where

@@ -8,7 +8,7 @@ use Rattle.txn_law.specs.Core.{CoreState}
 use Rattle.txn_law.specs.Fetch.{Fetch}
 use Rattle.circ.specs.Log.Log.{Log, settled_place}
 use Rattle.store_promise.specs.Openings.{IsLater}
-use Rattle.store_promise.specs.Running.{IsRunningOver, KeepsTransactions, at_rest}
+use Rattle.store_promise.specs.Running.{IsRunningOver, PreservesTransactions, at_rest}
 use Rattle.store_promise.specs.Schedule.{Setting}
 use Rattle.store_images.specs.Settling.{HasBroken}
 
@@ -33,7 +33,7 @@ pub record RunsOn (o : Setting) (after : Device) (new : CoreState)
 -- An open store stays open, whatever is at home, and what transactions have stays. It breaks only with a
 -- write or a barrier that failed.
 pub record LeavesOpen (before : Device) (old : CoreState) (after : Device) (new : CoreState) : Type 0 where
-  pub core : KeepsTransactions old new
+  pub core : PreservesTransactions old new
   pub further : IsFurther old new
   pub past : IsLater before after
   pub failures : before.failures ≤ after.failures

@@ -3,7 +3,7 @@ pub mod Counts
 pub mod Fetches
 pub mod Formatting
 pub mod Further
-pub mod LogSide
+pub mod LogCallState
 pub mod Opening
 pub mod Settling
 pub mod SettlingStops

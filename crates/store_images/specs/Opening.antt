@@ -1,6 +1,6 @@
 -- What comes of opening a store.
 use Rattle.std.specs.Prelude.{◌≡◌, ℕ, ◌+◌, ◌≤◌, false, length, Result, Ok, Err}
-use Rattle.base.specs.declared.TheConstants.{MOST_KEPT_COMMITS}
+use Rattle.base.specs.declared.TheConstants.{MOST_UNINSTALLED_COMMITS}
 use Rattle.disk.specs.Crash.{Image, IsAtRest, IsCrashImage}
 use Rattle.disk.specs.Device.{Device}
 use Rattle.nfs_spec.specs.Model.Tree.{Tree}
@@ -25,7 +25,7 @@ store_of device core boot = record { device = device; core = core; boot = boot }
 -- every change is settled, not too many commits are kept, and no write or barrier has failed
 pub record IsSettled (core : CoreState) : Type 0 where
   pub settled : settled_place core.log ≡ core.log.places
-  pub kept : length core.records ≤ MOST_KEPT_COMMITS
+  pub is_preserved : length core.records ≤ MOST_UNINSTALLED_COMMITS
   pub sound : core.log.broken ≡ false
 
 -- A device is at rest, and the image that it holds is good, with this tree and this boot number.

@@ -8,7 +8,7 @@ use Rattle.circ.specs.Log.Calls.{idle}
 use Rattle.circ.specs.Log.Log.{settled_place}
 use Rattle.txn_law.specs.Core.{CoreState}
 use Rattle.store_promise.specs.Openings.{IsLater, LeavesImages}
-use Rattle.store_promise.specs.OpenSince.{HasKeptFiles, IsOpenSince, KeepsFiles, LeavesBeginning}
+use Rattle.store_promise.specs.OpenSince.{HasPreservedFiles, IsOpenSince, PreservesFiles, LeavesBeginning}
 
 -- ---- call by call
 
@@ -49,11 +49,11 @@ GoesByCalls boot first entries last before old (after ∷ rest) later new =
 -- each place that was settled at first; and each stop at the end has in it each place that is settled then.
 -- So it is behind each device call on the way: each stop there has in it each place that is settled by then,
 -- of which none is taken back.
-pub record KeepsPrefix (before : Device) (old : CoreState) (later : Device) (new : CoreState) (boot : ℕ)
+pub record PreservesPrefix (before : Device) (old : CoreState) (later : Device) (new : CoreState) (boot : ℕ)
     (first : Tree) (entries : List Entry) (last : Tree) : Type 0 where
   pub past : IsLater before later
   pub left : LeavesImages before later
-  pub stops : KeepsFiles before later boot first entries (settled_place old.log)
+  pub stops : PreservesFiles before later boot first entries (settled_place old.log)
   pub ended : (image : Image) → IsCrashImage later later.clock image
       → LeavesBeginning later.size boot first entries (settled_place new.log) image
   pub further : settled_place old.log ≤ settled_place new.log
@@ -63,10 +63,10 @@ pub record KeepsPrefix (before : Device) (old : CoreState) (later : Device) (new
   pub since : IsOpenSince base later new idle idle boot first entries last
 
 -- so it is of any entries for which the store was open
-abbrev pub KeepsPrefixes : Device → CoreState → Device → CoreState → Type 0
-KeepsPrefixes before old later new = (base : Image) (boot : ℕ) (first last : Tree) (entries : List Entry)
+abbrev pub PreservesPrefixes : Device → CoreState → Device → CoreState → Type 0
+PreservesPrefixes before old later new = (base : Image) (boot : ℕ) (first last : Tree) (entries : List Entry)
     → IsOpenSince base before old idle idle boot first entries last
-    → KeepsPrefix before old later new boot first entries last
+    → PreservesPrefix before old later new boot first entries last
 
 -- ---- between its device calls
 
@@ -75,7 +75,7 @@ KeepsPrefixes before old later new = (base : Image) (boot : ℕ) (first last : T
 pub record StaysOpen (before : Device) (old : CoreState) (later : Device) (new : CoreState) (boot : ℕ)
     (first : Tree) (entries : List Entry) (last : Tree) : Type 0 where
   pub past : IsLater before later
-  pub left : HasKeptFiles before later boot first entries (settled_place old.log)
+  pub left : HasPreservedFiles before later boot first entries (settled_place old.log)
   pub further : settled_place old.log ≤ settled_place new.log
   pub calls : List AfterCall
   pub by_calls : GoesByCalls boot first entries last before old calls later new

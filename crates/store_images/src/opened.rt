@@ -1,23 +1,23 @@
 //! An open store: a disk with the core over it.
 ghost use Rattle.std.specs.Prelude.{◌≡◌, ◌+◌, ◌<◌, ◌≤◌, ◌↔◌, IsTrue, IsFalse, OnOk, OnErr, length};
 ghost use Rattle.std.specs.Prelude.{true, false};
-ghost use Rattle.base.specs.declared.TheConstants.{MOST_KEPT_COMMITS};
+ghost use Rattle.base.specs.declared.TheConstants.{MOST_UNINSTALLED_COMMITS};
 ghost use Rattle.layout.specs.Geometry.{IsLawful};
 ghost use Rattle.store_images.specs.Counts.{SameFrame};
-ghost use Rattle.store_images.specs.Fetches.{KeepsFetches};
+ghost use Rattle.store_images.specs.Fetches.{PreservesFetches};
 ghost use Rattle.store_images.specs.Further.{LeavesOpen};
 ghost use Rattle.store_images.specs.Opening.{IsSettled};
 ghost use Rattle.store_images.specs.Settling.{HasBroken, HasCalled, IsQuiet, IsTurnOf, SameNumbers};
 ghost use Rattle.store_images.specs.Settling.{SpendsCalls, SpendsSettling, most_calls};
 ghost use Rattle.store_images.specs.Settling.{most_of_settling};
-ghost use Rattle.store_images.specs.SettlingStops.{KeepsPrefixes, StayOpen};
+ghost use Rattle.store_images.specs.SettlingStops.{PreservesPrefixes, StayOpen};
 ghost use Rattle.wal.specs.Sides.{may_call};
 
-use crate::sides::{a_call_of_a_side_leaves_the_store_open, the_calls_of_a_side_are_steps};
-use base::MOST_KEPT_COMMITS;
+use crate::sides::{a_call_of_a_role_leaves_the_store_open, the_calls_of_a_role_are_steps};
+use base::MOST_UNINSTALLED_COMMITS;
 use disk::{CrashDisk, Failed, Side};
 use procs::Done;
-use store_promise::{a_stop_leaves_a_beginning, an_open_store_keeps_its_files};
+use store_promise::{a_stop_leaves_a_beginning, an_open_store_preserves_its_files};
 use txn::Core;
 use wal_calls::make_one;
 
@@ -30,7 +30,7 @@ pub struct Store<D: CrashDisk> {
     /// The boot number.
     pub boot: u64,
     /// The piece of the bitmap from which the next call looks for free blocks. No clause speaks of it.
-    pub room: u32,
+    pub alloc_cursor: u32,
     pub ghost size: { (D.device disk).size ≡ core.log.blocks },
     pub ghost lawful: { IsLawful core.log.blocks core.inodes },
 }
@@ -59,7 +59,7 @@ pub fn close<D: CrashDisk>(store: Store<D>) -> D
         disk,
         core: _,
         boot: _,
-        room: _,
+        alloc_cursor: _,
     } = store;
     disk
 }
@@ -79,7 +79,7 @@ pub fn settle<D: CrashDisk>(store: &mut Store<D>) -> Result<(), Failed>
         store.new.core }
     ensures counts { SameFrame store.old.core store.new.core }
     ensures numbers { SameNumbers store.old.core store.new.core }
-    ensures fetches { KeepsFetches store.old.core store.new.core }
+    ensures fetches { PreservesFetches store.old.core store.new.core }
     ensures settled { OnOk result (IsSettled store.new.core) }
     ensures failed { OnErr result (HasBroken store.old.core.log (D.device store.old.disk)
         (D.device store.new.disk)) }
@@ -88,18 +88,18 @@ pub fn settle<D: CrashDisk>(store: &mut Store<D>) -> Result<(), Failed>
         store.old.core.log }
     ensures bound { (D.device store.new.disk).clock ≤ (D.device store.old.disk).clock
         + most_of_settling store.old.core.log }
-    ensures keeps { D.keeps_model store.new.disk → KeepsPrefixes (D.device store.old.disk) store.old.core
+    ensures preserves { D.keeps_model store.new.disk → PreservesPrefixes (D.device store.old.disk) store.old.core
         (D.device store.new.disk) store.new.core }
     ensures model { D.keeps_model store.new.disk → D.keeps_model store.old.disk }
 {
     a_stop_leaves_a_beginning();
-    an_open_store_keeps_its_files();
+    an_open_store_preserves_its_files();
     store.core.lawful();
     'calls: loop {
         if store.core.broken() {
             return Err(Failed);
         }
-        if store.core.is_settled() && !keeps_too_many(store) {
+        if store.core.is_settled() && !has_too_many_uninstalled(store) {
             return Ok(());
         }
         store.core.lawful();
@@ -110,10 +110,10 @@ pub fn settle<D: CrashDisk>(store: &mut Store<D>) -> Result<(), Failed>
 }
 
 /// Whether more commits are kept than a store keeps once it has settled.
-pub fn keeps_too_many<D: CrashDisk>(store: &Store<D>) -> bool
-    ensures { IsTrue result ↔ (MOST_KEPT_COMMITS < length store.now.core.records) }
+pub fn has_too_many_uninstalled<D: CrashDisk>(store: &Store<D>) -> bool
+    ensures { IsTrue result ↔ (MOST_UNINSTALLED_COMMITS < length store.now.core.records) }
 {
-    store.kept() > MOST_KEPT_COMMITS
+    store.kept() > MOST_UNINSTALLED_COMMITS
 }
 
 // Makes the next device call of a side, if there is one.
@@ -125,7 +125,7 @@ fn call_one<D: CrashDisk>(side: Side, store: &mut Store<D>) -> bool
         store.new.core }
     ensures counts { SameFrame store.old.core store.new.core }
     ensures numbers { SameNumbers store.old.core store.new.core }
-    ensures fetches { KeepsFetches store.old.core store.new.core }
+    ensures fetches { PreservesFetches store.old.core store.new.core }
     ensures may { result ≡ may_call side store.old.core.log }
     ensures called { IsTrue result
         → HasCalled store.old.core.log (D.device store.old.disk) store.new.core.log (D.device store.new.disk) }
@@ -139,9 +139,9 @@ fn call_one<D: CrashDisk>(side: Side, store: &mut Store<D>) -> bool
         store.old.core.log (D.device store.new.disk) store.new.core.log }
 {
     a_stop_leaves_a_beginning();
-    an_open_store_keeps_its_files();
-    the_calls_of_a_side_are_steps();
-    a_call_of_a_side_leaves_the_store_open();
+    an_open_store_preserves_its_files();
+    the_calls_of_a_role_are_steps();
+    a_call_of_a_role_leaves_the_store_open();
     store.core.lawful();
     if !make_one(side, &mut store.core, &mut store.disk) {
         return false;

@@ -11,10 +11,10 @@ ghost use Rattle.nfs_spec.specs.Model.Tree.{Tree};
 ghost use Rattle.txn.specs.CoreLaw.{IsFresh};
 ghost use Rattle.circ.specs.Log.Installer.{may_install};
 ghost use Rattle.circ.specs.Log.Log.{IsLawful as IsLawfulLog, Log};
-ghost use Rattle.circ.specs.Log.Recovery.{HasOnlyRead, IsUnspoiled, image_of};
+ghost use Rattle.circ.specs.Log.Recovery.{HasOnlyRead, IsCertain, image_of};
 ghost use Rattle.store_promise.specs.Openings.{IsAnsweredFor, IsLater, IsRefusedFor, ShowsNoCause};
-ghost use Rattle.store_images.specs.BringingHome.{BringsHome, CountsCause, HasNoSuper, HasRaised};
-ghost use Rattle.store_images.specs.BringingHome.{HasNoLog, IsFound, IsFoundLog, KeepsBlocks, LeavesImage, unused};
+ghost use Rattle.store_images.specs.BringingHome.{BringsHome, CountsCause, HasNoSuper, HasIncremented};
+ghost use Rattle.store_images.specs.BringingHome.{HasNoLog, IsFound, IsFoundLog, PreservesBlocks, LeavesImage, unused};
 ghost use Rattle.store_images.specs.Opening.{HasOpened, HoldsTree, Opens, store_of};
 ghost use Rattle.store_images.specs.Settling.{HasCalled, IsIdle, IsQuiet};
 
@@ -54,7 +54,7 @@ pub fn open<D: CrashDisk>(alloc: Global, disk: D) -> Result<Store<D>, (D, OpenFa
     ensures left { IsAtRest (D.device disk) → MatchResult result
         (λ store. D.keeps_model store.disk → LeavesImage (D.device disk) (D.device store.disk))
         (λ refused. D.keeps_model refused.0 → LeavesImage (D.device disk) (D.device refused.0)) }
-    ensures keeps { (tree : Tree) (first : ℕ) → HoldsTree (D.device disk) tree first → MatchResult result
+    ensures preserves { (tree : Tree) (first : ℕ) → HoldsTree (D.device disk) tree first → MatchResult result
         (λ store. D.keeps_model store.disk → Opens (D.device disk)
         (Ok (store_of (D.device store.disk) store.core store.boot)) tree first)
         (λ refused. D.keeps_model refused.0 → Opens (D.device disk)
@@ -68,7 +68,7 @@ pub fn open<D: CrashDisk>(alloc: Global, disk: D) -> Result<Store<D>, (D, OpenFa
             disk,
             core,
             boot,
-            room: 0,
+            alloc_cursor: 0,
         }),
         Err(fault) => Err((disk, fault)),
     }
@@ -86,7 +86,7 @@ fn recover<D: CrashDisk>(alloc: Global, disk: &mut D) -> Result<(Core<Done>, u64
     ensures counted { IfErr result (λ cause. CountsCause cause (D.device disk.old) (D.device disk.new)) }
     ensures left { IsAtRest (D.device disk.old) → D.keeps_model disk.new
         → LeavesImage (D.device disk.old) (D.device disk.new) }
-    ensures keeps { (tree : Tree) (first : ℕ) → HoldsTree (D.device disk.old) tree first
+    ensures preserves { (tree : Tree) (first : ℕ) → HoldsTree (D.device disk.old) tree first
         → D.keeps_model disk.new
         → MatchResult result (λ opened. Opens (D.device disk.old)
         (Ok (store_of (D.device disk.new) opened.0 opened.1)) tree first)
@@ -110,8 +110,8 @@ fn recover<D: CrashDisk>(alloc: Global, disk: &mut D) -> Result<(Core<Done>, u64
     }
     core.lawful();
     let geometry = found.geometry.newest();
-    let raised = Super { geometry, boot };
-    if let Err(fault) = raise(alloc, disk, &mut block, raised) {
+    let incremented = Super { geometry, boot };
+    if let Err(fault) = increment(alloc, disk, &mut block, incremented) {
         return Err(fault);
     }
     Ok((core, boot))
@@ -133,9 +133,9 @@ fn find<D: CrashDisk>(
     ensures fresh { IfOk result (λ found. IsFresh found.1) }
     ensures quiet { IfOk result (λ found. IsQuiet found.1) }
     ensures sound { IfOk result (λ found. found.1.broken ≡ false) }
-    ensures found { D.keeps_model disk.new → IsUnspoiled (D.device disk.old)
+    ensures found { D.keeps_model disk.new → IsCertain (D.device disk.old)
         → IfOk result (λ found. IsFound (D.device disk.old) found.0 found.1) }
-    ensures none { D.keeps_model disk.new → IsUnspoiled (D.device disk.old)
+    ensures none { D.keeps_model disk.new → IsCertain (D.device disk.old)
         → IfOk result (λ _. ShowsNoCause (D.device disk.old).size (image_of (D.device disk.old))) }
     ensures refused { IfErr result
         (λ cause. IsRefusedFor (D.keeps_model disk.new) cause (D.device disk.old) (D.device disk.new)) }
@@ -157,9 +157,9 @@ fn find_log<D: CrashDisk>(alloc: Global, disk: &mut D, blocks: u32) -> Result<Wa
     ensures fresh { IfOk result IsFresh }
     ensures quiet { IfOk result IsQuiet }
     ensures sound { IfOk result (λ log. log.broken ≡ false) }
-    ensures found { IfOk result (IsFoundLog (D.keeps_model disk.new × IsUnspoiled (D.device disk.old))
+    ensures found { IfOk result (IsFoundLog (D.keeps_model disk.new × IsCertain (D.device disk.old))
         blocks (image_of (D.device disk.old))) }
-    ensures refused { IfErr result (λ cause. HasNoLog (D.keeps_model disk.new × IsUnspoiled (D.device disk.old))
+    ensures refused { IfErr result (λ cause. HasNoLog (D.keeps_model disk.new × IsCertain (D.device disk.old))
         cause blocks (image_of (D.device disk.old))) }
     ensures model { D.keeps_model disk.new → D.keeps_model disk.old }
 {
@@ -175,14 +175,14 @@ fn find_log<D: CrashDisk>(alloc: Global, disk: &mut D, blocks: u32) -> Result<Wa
 }
 
 /// The super block of an image that may be opened, as far as it shows. It only reads.
-#[tactic(auto, using(circ::proofs::LogLemmas::OnlyRead::read_alone, circ::proofs::LogLemmas::OnlyRead::no_read, store_promise::proofs::Later::read_later))]
+#[tactic(auto, using(circ::proofs::LogLemmas::OnlyRead::single_read, circ::proofs::LogLemmas::OnlyRead::no_read, store_promise::proofs::Later::read_later))]
 pub fn read_super<D: CrashDisk>(disk: &mut D, block: &mut Block) -> Result<Super, OpenFault>
     ensures reads { HasOnlyRead (D.device disk.old) (D.device disk.new) }
     ensures failure { MatchResult result (λ found. (D.device disk.new).failures ≡ (D.device disk.old).failures)
         (λ cause. CountsCause cause (D.device disk.old) (D.device disk.new)) }
     ensures blocks { IfOk result (λ found. found.geometry.blocks ≡ (D.device disk.old).size) }
     ensures boot { IfOk result (λ found. found.boot + 1 < 2 ^ 64) }
-    ensures found { D.keeps_model disk.new → IsUnspoiled (D.device disk.old)
+    ensures found { D.keeps_model disk.new → IsCertain (D.device disk.old)
         → IfOk result (IsSuper (image_of (D.device disk.old) SUPER_BLOCK)) }
     ensures refused { IfErr result
         (λ cause. IsRefusedFor (D.keeps_model disk.new) cause (D.device disk.old) (D.device disk.new)) }
@@ -232,9 +232,9 @@ fn install<D: CrashDisk>(disk: &mut D, core: &mut Core<Done>) -> Result<(), Open
     ensures boot { core.new.boot ≡ core.old.boot }
     ensures fresh { IsFresh core.new.log }
     ensures none { OnOk result ((core.new.log.broken ≡ false) × (may_install core.new.log ≡ false)) }
-    ensures clean { OnOk result (IsUnspoiled (D.device disk.old) → IsUnspoiled (D.device disk.new)) }
-    ensures home { (before : Device) (raised : Content) → BringsHome before raised (D.device disk.old) core.old.log
-        → BringsHome before raised (D.device disk.new) core.new.log }
+    ensures clean { OnOk result (IsCertain (D.device disk.old) → IsCertain (D.device disk.new)) }
+    ensures home { (before : Device) (incremented : Content) → BringsHome before incremented (D.device disk.old) core.old.log
+        → BringsHome before incremented (D.device disk.new) core.new.log }
     ensures failure { MatchResult result (λ _. (D.device disk.new).failures ≡ (D.device disk.old).failures)
         (λ cause. (cause ≡ OpenFault.Device) × ((D.device disk.old).failures < (D.device disk.new).failures)) }
     ensures model { D.keeps_model disk.new → D.keeps_model disk.old }
@@ -267,11 +267,11 @@ fn install_one<D: CrashDisk>(disk: &mut D, core: &mut Core<Done>) -> bool
     ensures called { IsTrue result
         → HasCalled core.old.log (D.device disk.old) core.new.log (D.device disk.new) }
     ensures counted { core.new.log.broken ≡ false → (D.device disk.new).failures ≡ (D.device disk.old).failures }
-    ensures clean { core.new.log.broken ≡ false → IsUnspoiled (D.device disk.old) → IsUnspoiled (D.device disk.new) }
+    ensures clean { core.new.log.broken ≡ false → IsCertain (D.device disk.old) → IsCertain (D.device disk.new) }
     ensures none { IsFalse result
         → (core.new ≡ core.old) × (D.device disk.new ≡ D.device disk.old) }
-    ensures home { (before : Device) (raised : Content) → BringsHome before raised (D.device disk.old) core.old.log
-        → BringsHome before raised (D.device disk.new) core.new.log }
+    ensures home { (before : Device) (incremented : Content) → BringsHome before incremented (D.device disk.old) core.old.log
+        → BringsHome before incremented (D.device disk.new) core.new.log }
     ensures model { D.keeps_model disk.new → D.keeps_model disk.old }
 {
     core.lawful();
@@ -283,25 +283,25 @@ fn install_one<D: CrashDisk>(disk: &mut D, core: &mut Core<Done>) -> bool
 }
 
 // Writes the super block, and settles it.
-fn raise<D: CrashDisk>(
+fn increment<D: CrashDisk>(
     alloc: Global,
     disk: &mut D,
     block: &mut Block,
-    raised: Super,
+    incremented: Super,
 ) -> Result<(), OpenFault>
     requires { 0 < (D.device disk.old).size }
     ensures later { IsLater (D.device disk.old) (D.device disk.new) }
     ensures failure { MatchResult result (λ _. (D.device disk.new).failures ≡ (D.device disk.old).failures)
         (λ cause. ((cause ≡ OpenFault.Device) × ((D.device disk.old).failures < (D.device disk.new).failures))
         ⊎ ((cause ≡ OpenFault.NoMemory) × (D.device disk.new ≡ D.device disk.old))) }
-    ensures raised { (before : Device) (log : Log) → IsLawfulLog log → log.changes ≡ []
-        → BringsHome before (super_bytes raised) (D.device disk.old) log
-        → MatchResult result (λ _. HasRaised before (super_bytes raised) (D.device disk.old)
+    ensures incremented { (before : Device) (log : Log) → IsLawfulLog log → log.changes ≡ []
+        → BringsHome before (super_bytes incremented) (D.device disk.old) log
+        → MatchResult result (λ _. HasIncremented before (super_bytes incremented) (D.device disk.old)
         (D.device disk.new) log)
-        (λ cause. KeepsBlocks before (D.device disk.new) (super_bytes raised)) }
+        (λ cause. PreservesBlocks before (D.device disk.new) (super_bytes incremented)) }
     ensures model { D.keeps_model disk.new → D.keeps_model disk.old }
 {
-    let Ok(bytes) = raised.write(alloc) else {
+    let Ok(bytes) = incremented.write(alloc) else {
         return Err(OpenFault::NoMemory);
     };
     put_whole(block, &bytes);
@@ -312,7 +312,7 @@ fn raise<D: CrashDisk>(
 }
 
 // Makes a block these bytes.
-#[tactic(auto, using(crate::proofs::Raising::all_of))]
+#[tactic(auto, using(crate::proofs::Incrementing::all_of))]
 fn put_whole(block: &mut Block, bytes: &[u8])
     requires { length bytes.now ≡ BLOCK_BYTES }
     ensures { block.new ≡ bytes.now }
@@ -326,10 +326,10 @@ fn put_super<D: CrashDisk>(disk: &mut D, block: &Block) -> Result<(), Failed>
     ensures later { IsLater (D.device disk.old) (D.device disk.new) }
     ensures failure { MatchResult result (λ _. (D.device disk.new).failures ≡ (D.device disk.old).failures)
         (λ _. (D.device disk.old).failures < (D.device disk.new).failures) }
-    ensures raised { (before : Device) (log : Log) → IsLawfulLog log → log.changes ≡ []
+    ensures incremented { (before : Device) (log : Log) → IsLawfulLog log → log.changes ≡ []
         → BringsHome before block.now (D.device disk.old) log
-        → MatchResult result (λ _. HasRaised before block.now (D.device disk.old) (D.device disk.new) log)
-        (λ _. KeepsBlocks before (D.device disk.new) block.now) }
+        → MatchResult result (λ _. HasIncremented before block.now (D.device disk.old) (D.device disk.new) log)
+        (λ _. PreservesBlocks before (D.device disk.new) block.now) }
     ensures model { D.keeps_model disk.new → D.keeps_model disk.old }
 {
     disk.write(BlockNo(SUPER_BLOCK), block)?;

@@ -1,8 +1,8 @@
 //! Calls planned one by one over an image, whose writes go home: without core, log and locks.
 
-mod beginning;
-mod planning;
-mod putting;
-mod replaying;
+mod entry_replay;
+mod home_writes;
+mod plans;
+mod start;
 
-pub use replaying::replay;
+pub use entry_replay::replay;

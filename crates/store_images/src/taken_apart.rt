@@ -1,6 +1,6 @@
 //! A store taken apart for its threads.
 ghost use Rattle.std.specs.Prelude.{◌≡◌, []};
-ghost use Rattle.txn.specs.CoreWindow.{KeepsHome};
+ghost use Rattle.txn.specs.CoreWindow.{PreservesHome};
 
 use crate::Store;
 use disk::CrashDisk;
@@ -39,14 +39,14 @@ pub fn parts<D: CrashDisk + Drop>(store: Store<D>) -> TakenApart<D>
       present = result.core.present;
     } }
     ensures idle { store.core.out ≡ [] → result.core ≡ store.core }
-    ensures home { KeepsHome store.core result.core }
+    ensures home { PreservesHome store.core result.core }
     ensures disk { result.disk ≡ store.disk }
 {
     let Store {
         disk,
         mut core,
         boot: _,
-        room: _,
+        alloc_cursor: _,
     } = store;
     core.abort_all();
     TakenApart { core, disk }

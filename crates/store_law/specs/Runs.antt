@@ -1,4 +1,4 @@
-pub mod Noting
+pub mod Tracing
 pub mod Ledger
 pub mod Past
 pub mod Run

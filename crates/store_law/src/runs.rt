@@ -2,8 +2,8 @@
 //! prefix of its procedures. They are contracts of functions that do nothing; `run` of `store` stands on
 //! them.
 
-mod noting;
 mod runs;
+mod trace_laws;
 
-pub use noting::{only_work_tells, what_is_told_grows};
-pub use runs::{a_run_begins, a_run_goes_on, a_run_keeps_its_promise};
+pub use runs::{a_run_begins, a_run_goes_on, a_run_preserves_its_promise};
+pub use trace_laws::{only_work_tells, what_is_traced_grows};

@@ -35,16 +35,16 @@ use Rattle.store_promise.specs.CauseOfIo.{IsOfLog, IsReadFor, is_io, tells_io}
 use Rattle.store_promise.specs.Progress.{At, Begun, Called, Idle, Job, Planning, Progress, Refused, Stage}
 use Rattle.store_promise.specs.Progress.{Waiting, going_on}
 use Rattle.store_promise.specs.Progress.{is_idle, progressed}
-use Rattle.store_promise.specs.Schedule.{IsStepOfCalled, IsStepOfWork, Schedule, Setting, Told}
+use Rattle.store_promise.specs.Schedule.{IsStepOfCalled, IsStepOfWork, Schedule, Setting, RunState}
 use Rattle.store_promise.specs.EventSteps.{AreTaken}
 use Rattle.store_promise.specs.Schedule.{progress_before}
-use Rattle.store_promise.specs.Schedule.{told_after, told_before}
+use Rattle.store_promise.specs.Schedule.{state_after, state_before}
 use Rattle.store_promise.specs.Transcript.{Transcript, calls_device, committed_at, entry_of, fails, made}
 use Rattle.store_promise.specs.Transcript.{step_at}
 use Rattle.store_promise.specs.Verdicts.{HasVerdict, IsAnswer, cause_of, refusal}
-use Rattle.store_promise.proofs.FailuresTold.{LogShows, inst_failed, is_broken, log_failed}
+use Rattle.store_promise.proofs.LogFailures.{LogShows, inst_failed, is_broken, log_failed}
 use Rattle.store_promise.proofs.StableAnswers.{entry_index, one_more}
-use Rattle.store_promise.proofs.Told.{get_within, may_be, own_next, step_is, told_next}
+use Rattle.store_promise.proofs.RunStates.{get_within, may_be, own_next, step_is, state_next_is}
 use Rattle.store_promise.proofs.WorkersFailed.{Showed, before, log_came, of_log, reads, shows, worker_came}
 
 -- ---- along the steps
@@ -53,18 +53,18 @@ use Rattle.store_promise.proofs.WorkersFailed.{Showed, before, log_came, of_log,
 record LogFailed (events : Schedule) (t : Transcript) (n : ℕ) : Type 0 where
   index : ℕ
   earlier : index < n
-  told : fails (step_at t index) ≡ true
+  step_failed : fails (step_at t index) ≡ true
   whose : IsOfLog (slice_get events index)
 
 -- or a read for the call that a worker still has
 pub record Failed (events : Schedule) (t : Transcript) (n worker : ℕ) : Type 0 where
   pub index : ℕ
   pub earlier : index < n
-  pub told : fails (step_at t index) ≡ true
+  pub step_failed : fails (step_at t index) ≡ true
   pub whose : IsOfLog (slice_get events index) ⊎ IsReadFor events t worker index n
 
 record Known (events : Schedule) (t : Transcript) (n : ℕ) : Type 0 where
-  log : LogShows (told_before events t.steps n).log → LogFailed events t n
+  log : LogShows (state_before events t.steps n).log → LogFailed events t n
   own : (worker : ℕ) → shows (progress_before events t.steps worker n) ≡ true → Failed events t n worker
 
 has_call : (so_far : Progress) → shows so_far ≡ true → is_idle so_far ≡ false
@@ -76,7 +76,7 @@ of_the_log : (events : Schedule) (t : Transcript) (n worker : ℕ) → LogFailed
 of_the_log events t n worker failed = record {
   index = failed.index;
   earlier = failed.earlier;
-  told = failed.told;
+  step_failed = failed.step_failed;
   whose = inl failed.whose;
 }
 
@@ -85,7 +85,7 @@ module _ (events : Schedule) (t : Transcript) (n : ℕ) where
   log_later failed = record {
     index = failed.index;
     earlier = let early = failed.earlier in omega (arith, early);
-    told = failed.told;
+    step_failed = failed.step_failed;
     whose = failed.whose;
   }
 
@@ -104,7 +104,7 @@ module _ (events : Schedule) (t : Transcript) (n : ℕ) where
     own_later failed = record {
       index = failed.index;
       earlier = let early = failed.earlier in omega (arith, early);
-      told = failed.told;
+      step_failed = failed.step_failed;
       whose = elim failed.whose [
         | inl log ↦ inl log
         | inr read ↦ inr (record { reads = read.reads; going = up_to failed.index read.going })
@@ -115,37 +115,37 @@ module _ (o : Setting) (workers : ℕ) (events : Schedule) (t : Transcript)
     (taken : AreTaken o workers events t.steps) where
   module _ (n : ℕ) (known : Known events t n) (e : Event) (m : Option Step)
       (is_event : slice_get events n ≡ Some e) (is_step : slice_get t.steps n ≡ Some m) where
-    abbrev told : Told
-    told = told_before events t.steps n
+    abbrev run_state : RunState
+    run_state = state_before events t.steps n
 
-    after_it : told_before events t.steps (suc n) ≡ told_after told e m
-    after_it = told_next events t.steps n e m is_event is_step
+    after_it : state_before events t.steps (suc n) ≡ state_after run_state e m
+    after_it = state_next_is events t.steps n e m is_event is_step
 
     fails_now : fails m ≡ true → fails (step_at t n) ≡ true
     fails_now so = ap (λ (found : Option (Option Step)). fails (made found)) is_step ∙ so
 
-    log_next : LogShows (told_before events t.steps (suc n)).log → LogFailed events t (suc n)
+    log_next : LogShows (state_before events t.steps (suc n)).log → LogFailed events t (suc n)
     log_next so =
-        elim (log_came o workers told e m (taken.each n e m is_event is_step)
-        (subst (λ (x : Told). LogShows x.log) after_it so)) [
+        elim (log_came o workers run_state e m (taken.each n e m is_event is_step)
+        (subst (λ (x : RunState). LogShows x.log) after_it so)) [
           | inl earlier ↦ log_later events t n (known.log earlier)
           | inr now ↦ record {
             index = n;
             earlier = omega arith;
-            told = fails_now now.0;
+            step_failed = fails_now now.0;
             whose = subst IsOfLog (sym is_event) now.1;
           }
         ]
 
     by_case : (worker : ℕ) → is_idle (progress_before events t.steps worker (suc n)) ≡ false
-        → Showed told e m worker → Failed events t (suc n) worker
+        → Showed run_state e m worker → Failed events t (suc n) worker
     by_case worker still (before so) = own_later events t n worker still (known.own worker so)
     by_case worker still (of_log so) = of_the_log events t (suc n) worker
         (log_later events t n (known.log so))
     by_case worker still (reads is so busy) = record {
       index = n;
       earlier = omega arith;
-      told = fails_now so;
+      step_failed = fails_now so;
       whose = inr (record {
         reads = is_event ∙ ap (λ (x : Event). Some x) is;
         going = up_to events t n worker still n (λ at from to.
@@ -159,11 +159,11 @@ module _ (o : Setting) (workers : ℕ) (events : Schedule) (t : Transcript)
       log = log_next;
       own = λ worker so. by_case worker
           (has_call (progress_before events t.steps worker (suc n)) so)
-          (worker_came o workers told worker e m (taken.each n e m is_event is_step)
-          (subst (λ (x : Told). shows (x.workers worker) ≡ true) after_it so));
+          (worker_came o workers run_state worker e m (taken.each n e m is_event is_step)
+          (subst (λ (x : RunState). shows (x.workers worker) ≡ true) after_it so));
     }
 
-  none_yet : LogShows (told_before events t.steps 0).log → LogFailed events t 0
+  none_yet : LogShows (state_before events t.steps 0).log → LogFailed events t 0
   none_yet (is_broken so) = cc
   none_yet (log_failed so) = cc
   none_yet (inst_failed so) = cc
@@ -183,7 +183,7 @@ outcome_fails (Ok answer) so = cc
 outcome_fails (Err status.Io) so = refl
 outcome_fails (Err _) so = cc
 
-io_fails : (told : Reply) → tells_io told ≡ true → tells_failure told ≡ true
+io_fails : (response : Reply) → tells_io response ≡ true → tells_failure response ≡ true
 io_fails reply.Null so = cc
 io_fails (reply.GetAttr outcome) so = outcome_fails outcome so
 io_fails (reply.SetAttr outcome _) so = outcome_fails outcome so
@@ -214,9 +214,9 @@ not_io other _ never so = cc
 
 -- no procedure of the history does
 abbrev pub NoStepTellsFailure : Type 0
-NoStepTellsFailure = (tree next : Tree) (ctx : Ctx) (asked : Call) (told : Reply)
-    → steps_by tree ctx asked told next
-    → tells_failure told ≡ false
+NoStepTellsFailure = (tree next : Tree) (ctx : Ctx) (asked : Call) (response : Reply)
+    → steps_by tree ctx asked response next
+    → tells_failure response ≡ false
 
 no_entry : NoStepTellsFailure → (tree last : Tree) (history : List Committed)
     → after tree (map entry_of history) last
@@ -240,12 +240,12 @@ of_history none tree last t leads place c is so =
 
 -- ---- the answer
 
-module _ (t : Transcript) (a : Answer) (told : Reply) (is : a.verdict ≡ verdict.Reply told)
-    (io : tells_io told ≡ true) where
+module _ (t : Transcript) (a : Answer) (response : Reply) (is : a.verdict ≡ verdict.Reply response)
+    (io : tells_io response ≡ true) where
   tells : (other : Reply) → a.verdict ≡ verdict.Reply other → tells_io other ≡ true
   tells other so =
-      let same : verdict.Reply told ≡ verdict.Reply other = sym is ∙ so in
-      let replies : told ≡ other = cc in
+      let same : verdict.Reply response ≡ verdict.Reply other = sym is ∙ so in
+      let replies : response ≡ other = cc in
       subst (λ (r : Reply). tells_io r ≡ true) replies io
 
   not_refused : (other : Status) (asked : Call) → is_io other ≡ false
@@ -254,9 +254,9 @@ module _ (t : Transcript) (a : Answer) (told : Reply) (is : a.verdict ≡ verdic
 
   no_memory : a.verdict ≡ verdict.NoMemory → ⊥
   no_memory so =
-      let same : verdict.Reply told ≡ verdict.NoMemory = sym is ∙ so in cc
+      let same : verdict.Reply response ≡ verdict.NoMemory = sym is ∙ so in cc
 
-  by_begun : (now : Told) (ruled : Bool) (asked : Call) (why : BeginFault)
+  by_begun : (now : RunState) (ruled : Bool) (asked : Call) (why : BeginFault)
       → IsStepOfCalled now ruled (step.Begun (Err why)) → a.verdict ≡ refusal asked (cause_of why)
       → now.log.broken ≡ true
   by_begun now true asked fault.Broken may so = may
@@ -276,7 +276,7 @@ module _ (t : Transcript) (a : Answer) (told : Reply) (is : a.verdict ≡ verdic
   by_waiting job false place ends = cc
 
   module _ (none : (place : ℕ) (c : Committed) → committed_at t place ≡ Some c → tells_io c.reply ≡ true → ⊥)
-      (o : Setting) (now : Told) (worker : ℕ) (job : Job) where
+      (o : Setting) (now : RunState) (worker : ℕ) (job : Job) where
     by_verdict : (stage : Stage) (one : Step) → HasVerdict t job.call stage one a
         → IsStepOfWork o now worker (At job stage) (Some one)
         → is_idle (progressed now.log.broken one (At job stage)) ≡ true
@@ -285,22 +285,22 @@ module _ (t : Transcript) (a : Answer) (told : Reply) (is : a.verdict ≡ verdic
     by_verdict (Called known) (step.Begun (Err why)) has may ends =
         inr (by_begun now (begins_transaction job.call) job.call why may has.1)
     by_verdict (Planning begun) (step.Commit blocks (committing.Committed place)) has may ends =
-        absurd (none place.0 has.entry has.is_entry (tells has.entry.reply has.told))
+        absurd (none place.0 has.entry has.is_entry (tells has.entry.reply has.is_replied))
     by_verdict (Planning begun) (step.Ended ending.NoMemory) has may ends = absurd (no_memory has.1)
     by_verdict (Refused begun why) (step.Ended ending.Refused) has may ends =
         inl (by_refused job begun why has.1)
     by_verdict (Waiting place) (step.Stable seq true) has may ends =
-        absurd (none place has.entry has.is_entry (tells has.entry.reply has.told))
+        absurd (none place has.entry has.is_entry (tells has.entry.reply has.is_replied))
     by_verdict (Waiting place) (step.Stable seq false) has may ends =
         inr (by_waiting job now.log.broken place ends)
     by_verdict _ _ has may ends = absurd has
 
-pub failed_before : (o : Setting) (workers : ℕ) (events : Schedule) (t : Transcript) (a : Answer) (told : Reply)
+pub failed_before : (o : Setting) (workers : ℕ) (events : Schedule) (t : Transcript) (a : Answer) (response : Reply)
     → AreTaken o workers events t.steps → IsAnswer events t a
     → ((place : ℕ) (c : Committed) → committed_at t place ≡ Some c → tells_io c.reply ≡ true → ⊥)
-    → a.verdict ≡ verdict.Reply told → tells_io told ≡ true → Failed events t a.event a.worker
-failed_before o workers events t a told taken answer none is io =
-    let now = told_before events t.steps a.event in
+    → a.verdict ≡ verdict.Reply response → tells_io response ≡ true → Failed events t a.event a.worker
+failed_before o workers events t a response taken answer none is io =
+    let now = state_before events t.steps a.event in
     let is_step = step_is t a.event answer.step answer.made in
     let may : IsStepOfWork o now a.worker (At answer.job answer.stage) (Some answer.step) =
     subst (λ p. IsStepOfWork o now a.worker p (Some answer.step)) answer.so_far
@@ -312,7 +312,7 @@ failed_before o workers events t a told taken answer none is io =
     ∙ ap (progressed now.log.broken answer.step) answer.so_far)) ∙ answer.ends in
     let few = slice_get_within t.steps a.event (Some answer.step) is_step in
     let known = known_at o workers events t taken a.event (omega (arith, few)) in
-    elim (by_verdict t a told is io none o now a.worker answer.job answer.stage answer.step
+    elim (by_verdict t a response is io none o now a.worker answer.job answer.stage answer.step
     answer.verdict may ends) [
       | inl shown ↦ known.own a.worker (ap shows answer.so_far ∙ shown)
       | inr broken ↦ of_the_log events t a.event a.worker (known.log (is_broken broken))

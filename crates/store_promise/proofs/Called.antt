@@ -3,7 +3,7 @@ use Rattle.std.proofs.Common.{◌≡◌, ◌∙◌, ap, subst, ℕ, ◌+◌, ◌
 use Rattle.std.proofs.Common.{[], ◌∷◌, if◌then◌else◌, Option, Some, length, length-append}
 use Rattle.std.proofs.Common.{slice_get}
 use Rattle.std.proofs.lemmas.List.{length-drop}
-use Rattle.disk.specs.Device.{Content, Device, is_on, newest_alone}
+use Rattle.disk.specs.Device.{Content, Device, is_on, newest_only}
 use Rattle.disk.specs.declared.block.Side.{Side}
 use Rattle.nfs_spec.specs.Model.Tree.{Tree}
 use Rattle.circ.specs.declared.log.calls.IoCall.{IoCall}
@@ -12,43 +12,43 @@ use Rattle.store_promise.specs.declared.events.Step.{Step}
 use Rattle.store_promise.specs.declared.events.Step.TheVariants as step
 use Rattle.store_promise.specs.DeviceCalls.{Contents, DoesCall, DoesCallOut, DoesStepBy, HasOneMore}
 use Rattle.store_promise.specs.FailedCalls.{one_if}
-use Rattle.store_promise.specs.Headline.{KeepsPromise}
-use Rattle.store_promise.specs.LogTold.{CallTold, out}
-use Rattle.store_promise.specs.Schedule.{Schedule, told_before}
+use Rattle.store_promise.specs.Headline.{PreservesPromise}
+use Rattle.store_promise.specs.LogState.{CallState, out}
+use Rattle.store_promise.specs.Schedule.{Schedule, state_before}
 use Rattle.store_promise.specs.Transcript.{Transcript, calls_device, device_calls}
 
 module _ (before later : Device) (tree : Tree) (first workers start index : ℕ) (events : Schedule)
     (t : Transcript) (made : Option Step) (clock : later.clock ≡ start + device_calls t (length t.steps))
     (is : slice_get t.steps index ≡ Some made)
-    (kept : KeepsPromise before later tree first workers events t) where
+    (is_preserved : PreservesPromise before later tree first workers events t) where
   abbrev at : ℕ
   at = start + device_calls t index
 
-  start_is : kept.opened.clock ≡ start
-  start_is = let calls = kept.calls.clock in omega (arith, calls, clock)
+  start_is : is_preserved.opened.clock ≡ start
+  start_is = let calls = is_preserved.calls.clock in omega (arith, calls, clock)
 
-  pub did : DoesStepBy (told_before events t.steps index).log made (later.contents at)
+  pub did : DoesStepBy (state_before events t.steps index).log made (later.contents at)
       (later.contents (at + one_if (calls_device made)))
-  did = subst (λ (n : ℕ). DoesStepBy (told_before events t.steps index).log made
+  did = subst (λ (n : ℕ). DoesStepBy (state_before events t.steps index).log made
       (later.contents (n + device_calls t index))
       (later.contents (n + device_calls t index + one_if (calls_device made)))) start_is
-      (kept.calls.did index made is)
+      (is_preserved.calls.did index made is)
 
   module _ (call : IoCall) (ok : Bool) (made_is : made ≡ Some (step.LogIo ok))
-      (out_is : (told_before events t.steps index).log.log_call ≡ out call) where
+      (out_is : (state_before events t.steps index).log.log_call ≡ out call) where
     pub logged : DoesCall call ok (later.contents at) (later.contents (at + 1))
     logged =
-        subst (λ (c : CallTold). DoesCallOut c ok (later.contents at) (later.contents (at + 1))) out_is
-        (subst (λ (m : Option Step). DoesStepBy (told_before events t.steps index).log m (later.contents at)
+        subst (λ (c : CallState). DoesCallOut c ok (later.contents at) (later.contents (at + 1))) out_is
+        (subst (λ (m : Option Step). DoesStepBy (state_before events t.steps index).log m (later.contents at)
         (later.contents (at + one_if (calls_device m)))) made_is did)
 
 -- a block of a barrier's side has one content behind it
 newest_one : (old new : List Content) (on : Bool) → on ≡ true
-    → new ≡ (if on then newest_alone old else old) → 1 < length new → ⊥
+    → new ≡ (if on then newest_only old else old) → 1 < length new → ⊥
 newest_one old new on is same long =
-    let alone : new ≡ newest_alone old = same ∙ ap (λ (b : Bool). if b then newest_alone old else old) is in
+    let only_newest : new ≡ newest_only old = same ∙ ap (λ (b : Bool). if b then newest_only old else old) is in
     let count = length-drop (length old - 1) old in
-    let lengths = ap (λ (l : List Content). length l) alone in
+    let lengths = ap (λ (l : List Content). length l) only_newest in
     omega (arith, count, lengths, long)
 
 pub not_settled : (side : Side) (block : ℕ) (old new : Contents) → is_on side block ≡ true

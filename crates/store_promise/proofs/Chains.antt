@@ -19,9 +19,9 @@ use Rattle.store_promise.specs.OpenStore.{IsChain}
 
 pub after_both : (tree middle last : Tree) (n m : ℕ) (entries : List Entry) → after tree (take n entries) middle
     → after middle (take m (drop n entries)) last → after tree (take (n + m) entries) last
-after_both tree middle last n m entries led more =
+after_both tree middle last n m entries transition more =
     subst (λ (es : List Entry). after tree es last) (sym (take-add n m entries))
-    (join tree middle last (take n entries) (take m (drop n entries)) led more)
+    (join tree middle last (take n entries) (take m (drop n entries)) transition more)
 
 -- ---- a chain ends with the blocks after all its commits
 
@@ -82,21 +82,21 @@ module _ (boot : ℕ) (makes_none : (tree next : Tree) (ctx : Ctx) (asked : Call
   pub stamps_more : (entries : List Entry) (tree : Tree) (entry : Entry) → entry.ctx.boot ≤ boot
       → ((count : ℕ) (left : Tree) → after tree (take count entries) left → IsMadeBy boot left)
       → (count : ℕ) (left : Tree) → after tree (take count (entries ++ entry ∷ [])) left → IsMadeBy boot left
-  stamps_more entries tree entry early all zero left led = all zero left led
-  stamps_more [] tree entry early all (suc zero) left led =
+  stamps_more entries tree entry early all zero left transition = all zero left transition
+  stamps_more [] tree entry early all (suc zero) left transition =
       makes_none tree left entry.ctx entry.call entry.reply (all zero tree refl) early
-      (subst (λ t. step tree entry.ctx entry.call entry.reply t) (sym led.2) led.1)
-  stamps_more [] tree entry early all (suc (suc count)) left led =
+      (subst (λ t. step tree entry.ctx entry.call entry.reply t) (sym transition.2) transition.1)
+  stamps_more [] tree entry early all (suc (suc count)) left transition =
       makes_none tree left entry.ctx entry.call entry.reply (all zero tree refl) early
-      (subst (λ t. step tree entry.ctx entry.call entry.reply t) (sym led.2) led.1)
-  stamps_more (e ∷ entries) tree entry early all (suc count) left led =
-      stamps_more entries led.0 entry early (λ n last more. all (suc n) last (led.0, led.1, more))
-      count left led.2
+      (subst (λ t. step tree entry.ctx entry.call entry.reply t) (sym transition.2) transition.1)
+  stamps_more (e ∷ entries) tree entry early all (suc count) left transition =
+      stamps_more entries transition.0 entry early (λ n last more. all (suc n) last (transition.0, transition.1, more))
+      count left transition.2
 
 -- without the first entries
 pub stamps_past : (boot : ℕ) (entries : List Entry) (tree middle : Tree) (n : ℕ)
     → ((count : ℕ) (left : Tree) → after tree (take count entries) left → IsMadeBy boot left)
     → after tree (take n entries) middle
     → (count : ℕ) (left : Tree) → after middle (take count (drop n entries)) left → IsMadeBy boot left
-stamps_past boot entries tree middle n all led count left more =
-    all (n + count) left (after_both tree middle left n count entries led more)
+stamps_past boot entries tree middle n all transition count left more =
+    all (n + count) left (after_both tree middle left n count entries transition more)

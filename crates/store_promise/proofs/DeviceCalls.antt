@@ -10,7 +10,7 @@ use Rattle.store_promise.specs.declared.events.Step.{Step}
 use Rattle.store_promise.specs.declared.events.Step.TheVariants as step
 use Rattle.store_promise.specs.DeviceCalls.{AreStill, Contents, DoesCall, DoesStep, Grows}
 use Rattle.store_promise.specs.FailedCalls.{one_if}
-use Rattle.store_promise.specs.LogTold.{CallTold}
+use Rattle.store_promise.specs.LogState.{CallState}
 use Rattle.store_promise.specs.Running.{IsMovedBy}
 use Rattle.store_promise.specs.Transcript.{calls_device}
 
@@ -41,7 +41,7 @@ does_call old new io answer ok ok_is made =
 -- ---- no call
 
 -- a step that is no call of the device changes nothing
-pub does_nothing : (logging installing : CallTold) (made : Option Step) (old new : Contents)
+pub does_nothing : (logging installing : CallState) (made : Option Step) (old new : Contents)
     → calls_device made ≡ false → AreStill old new → DoesStep logging installing made old new
 does_nothing logging installing (Some (step.LogIo ok)) old new none still = cc
 does_nothing logging installing (Some (step.InstIo ok)) old new none still = cc

@@ -20,7 +20,7 @@ use Rattle.txn_law.specs.Core.{CoreState}
 use Rattle.txn_law.specs.CoreWindow.{held_of}
 use Rattle.txn_law.specs.Object.{ObjectBytes}
 use Rattle.txn_law.specs.Present.{content_in, present_of}
-use Rattle.txn_law.specs.Tidy.{IsPlaced}
+use Rattle.txn_law.specs.WellFormed.{IsPlaced}
 use Rattle.txn_law.specs.Window.{IsAsRead, IsCurrent, now_of, opening, part}
 use Rattle.objects.specs.declared.present.Present.{Present}
 use Rattle.txn_law.proofs.Claims.{found_by}
@@ -87,7 +87,7 @@ module _ (base : Image) (d : Device) (core : CoreState) (logging installing : Pe
       → IsAsRead (file_blocks base core) object
   held_now tx object read =
       let content = read.current.content in
-      let home = in_memory_home core.log.blocks core.present object.addr.block content since.over.tidy.placed
+      let home = in_memory_home core.log.blocks core.present object.addr.block content since.over.well_formed.placed
       read.current.there in
       let current : content ≡ now_of base core.log core.records object.addr.block.0 =
       All-contains (IsCurrent (now_of base core.log core.records)) (held_of core.present)

@@ -160,9 +160,9 @@ module _ (base : Image) (d : Device) (old new : CoreState) (logging installing :
   blocks_now = ap (λ (image : Image). after_commits image new.records) (sym homes_are) ∙ after_it either
 
   -- and those after each earlier commit
-  pub blocks_kept : (count : ℕ) → count ≤ length old.records
+  pub blocks_preserved : (count : ℕ) → count ≤ length old.records
       → blocks_after base new count ≡ blocks_after base old count
-  blocks_kept count early =
+  blocks_preserved count early =
       ap (λ (image : Image). after_commits image (take count new.records)) (sym homes_are) ∙ by_case either
     where
       by_case : HasChange ⊎ IsHomeAtOnce
@@ -184,9 +184,9 @@ module _ (base : Image) (d : Device) (old new : CoreState) (logging installing :
     as_read object there = held_now base d old logging installing boot first last entries since tx object
         (All-contains (IsReadBy old tx) plan.read object took.tried.own.read there)
 
-    pub led : (next : Tree) × step last entry.ctx entry.call entry.reply next
+    pub transition : (next : Tree) × step last entry.ctx entry.call entry.reply next
         × Stands g (with_objects now plan.written) next
-    led = subst (λ (h : Geometry). (next : Tree) × step last entry.ctx entry.call entry.reply next
+    transition = subst (λ (h : Geometry). (next : Tree) × step last entry.ctx entry.call entry.reply next
         × Stands h (with_objects now plan.written) next) geometry_is
         (tells.step now last tells.sound (subst (λ (h : Geometry). Stands h now last) (sym geometry_is)
         (stands_now base d old logging installing boot first last entries since)) as_read)
@@ -207,21 +207,21 @@ module _ (base : Image) (d : Device) (old new : CoreState) (logging installing :
 
       build : (home : Tree) (rs : List Footprint) (left : List Entry) → new.records ≡ rs
           → drop (installed_place new.log) more ≡ left → after first (take (installed_place new.log) more) home
-          → IsChain g homes home rs left led.0
+          → IsChain g homes home rs left transition.0
           → ((count : ℕ) (tree : Tree) → after home (take count left) tree → IsMadeBy boot tree)
-          → IsOpenSince base d new logging installing boot first more led.0
+          → IsOpenSince base d new logging installing boot first more transition.0
       build home rs left records rest leads chain stamps = record {
         counted = counted;
         boot_is = ap (λ (core : CoreState). core.boot) took.only ∙ since.boot_is;
         home = home;
         leads = leads;
         over = subst (λ (es : List Entry). IsOpenOver base d new logging installing boot home es
-            led.0) (sym rest)
+            transition.0) (sym rest)
             (record {
               lawful = sound.lawful;
               agrees = took.law d base logging installing since.over.agrees;
               readable = readable;
-              tidy = sound.tidy;
+              well_formed = sound.well_formed;
               files = record {
                 home = sound.home;
                 super = files.super;
@@ -232,14 +232,14 @@ module _ (base : Image) (d : Device) (old new : CoreState) (logging installing :
                 inodes_are = files.inodes_are ∙ sym (ap (λ (core : CoreState). core.inodes) took.only);
                 chain = subst (λ (xs : List Footprint). IsChain g
                     (homes_of new.log.blocks (opening base new.log)) home xs
-                    left led.0) (sym records)
-                    (subst (λ (image : Image). IsChain g image home rs left led.0) homes_are chain);
+                    left transition.0) (sym records)
+                    (subst (λ (image : Image). IsChain g image home rs left transition.0) homes_are chain);
                 stamps = stamps;
               };
             });
       }
 
-      with_change : HasChange → IsOpenSince base d new logging installing boot first more led.0
+      with_change : HasChange → IsOpenSince base d new logging installing boot first more transition.0
       with_change has =
           let n = installed_place old.log in
           build since.home (old.records ++ commit ∷ []) (drop n entries ++ entry ∷ []) has.records
@@ -247,18 +247,18 @@ module _ (base : Image) (d : Device) (old new : CoreState) (logging installing :
           (subst (λ (es : List Entry). after first es since.home)
           (sym (ap (λ (k : ℕ). take k more) has.same
           ∙ take-append-le n entries (entry ∷ []) within)) since.leads)
-          (chain_more g homes since.home old.records (drop n entries) last led.0 commit entry
-          files.chain led.1 led.2)
+          (chain_more g homes since.home old.records (drop n entries) last transition.0 commit entry
+          files.chain transition.1 transition.2)
           (stamps_more boot makes_none (drop n entries) since.home entry early files.stamps)
 
-      without_change : IsHomeAtOnce → IsOpenSince base d new logging installing boot first more led.0
+      without_change : IsHomeAtOnce → IsOpenSince base d new logging installing boot first more transition.0
       without_change at_once =
           let all = at_once.all in
           let n = installed_place old.log in
           let there : n ≡ old.log.places = ap (λ (xs : List LogChange). place_before xs old.log.places)
           at_once.none in
           let few = files.home.window.all in
-          let kept : old.records ≡ [] = no_entries old.records (omega (arith, there, few)) in
+          let is_preserved : old.records ≡ [] = no_entries old.records (omega (arith, there, few)) in
           let through : after first (take (n + length entries) entries) last =
           after_both first since.home last n (length entries) entries since.leads
           (subst (λ (es : List Entry). after since.home es last)
@@ -272,25 +272,25 @@ module _ (base : Image) (d : Device) (old new : CoreState) (logging installing :
           (sym (take_all (length entries) (drop n entries) (short n)))
           (chain_leads g homes since.home old.records (drop n entries) last files.chain)) in
           let long = counted in
-          build led.0 [] []
-          (at_once.records ∙ kept)
+          build transition.0 [] []
+          (at_once.records ∙ is_preserved)
           (drop_all (installed_place new.log) more (omega (arith, all, long)))
-          (subst (λ (es : List Entry). after first es led.0)
+          (subst (λ (es : List Entry). after first es transition.0)
           (sym (take_all (installed_place new.log) more (omega (arith, all, long))))
-          (push first last led.0 entries entry whole led.1)) (
-            subst (λ (image : Image). Stands g image led.0)
-                (ap (λ (xs : List Footprint). with_objects (after_commits homes xs) plan.written) kept
-                ∙ ap (λ (os : List ObjectBytes). with_objects homes os) at_once.writes) led.2,
+          (push first last transition.0 entries entry whole transition.1)) (
+            subst (λ (image : Image). Stands g image transition.0)
+                (ap (λ (xs : List Footprint). with_objects (after_commits homes xs) plan.written) is_preserved
+                ∙ ap (λ (os : List ObjectBytes). with_objects homes os) at_once.writes) transition.2,
             refl,
           )
-          (of_boot boot led.0 (makes_none last led.0 entry.ctx entry.call entry.reply made early led.1))
+          (of_boot boot transition.0 (makes_none last transition.0 entry.ctx entry.call entry.reply made early transition.1))
         where
           short : (n : ℕ) → length (drop n entries) ≤ length entries
           short n = let a = length-drop n entries in omega (arith, a)
 
-      go_on : HasChange ⊎ IsHomeAtOnce → IsOpenSince base d new logging installing boot first more led.0
+      go_on : HasChange ⊎ IsHomeAtOnce → IsOpenSince base d new logging installing boot first more transition.0
       go_on (inl has) = with_change has
       go_on (inr at_once) = without_change at_once
 
-      pub open_with : IsOpenSince base d new logging installing boot first more led.0
+      pub open_with : IsOpenSince base d new logging installing boot first more transition.0
       open_with = go_on either

@@ -16,7 +16,7 @@ use Rattle.layout.specs.declared.geometry.Geometry.{Geometry}
 use Rattle.layout.specs.Homes.{homes_of}
 use Rattle.layout.specs.SuperForm.{IsSuper}
 use Rattle.circ.specs.declared.log.change.LogChange.{LogChange}
-use Rattle.circ.specs.Log.Calls.{AgreesBeside, Pending, home_after, idle}
+use Rattle.circ.specs.Log.Calls.{AgreesWithPending, Pending, home_after, idle}
 use Rattle.circ.specs.Log.Grows.{recovered}
 use Rattle.circ.specs.Log.Effects.{HasGoneOn}
 use Rattle.circ.specs.Log.Installer.{next_home, with_inst_back, with_installed}
@@ -175,7 +175,7 @@ module _ (base : Image) (d : Device) (old new : CoreState) (logging installing :
       ∙ ap (λ (rs : List Footprint). after_commits homes rs) (take-append-drop n old.records)
 
   module _ (inodes : new.inodes ≡ old.inodes) (boot_same : new.boot ≡ old.boot) (sound : IsSoundCore home new)
-      (agrees : AgreesBeside d home new.log logging idle)
+      (agrees : AgreesWithPending d home new.log logging idle)
       (readable : IsReadable d new.log idle) where
     further : installed_place old.log + n ≡ installed_place new.log
     further = let a = gone.installed in omega (arith, a)
@@ -224,7 +224,7 @@ module _ (base : Image) (d : Device) (old new : CoreState) (logging installing :
             lawful = sound.lawful;
             agrees = agrees;
             readable = readable;
-            tidy = sound.tidy;
+            well_formed = sound.well_formed;
             files = files_then;
           });
     }

@@ -9,7 +9,7 @@ use Rattle.nfs_spec.specs.Model.Tree.{Tree}
 use Rattle.layout.specs.Homes.{homes_of}
 use Rattle.circ.specs.declared.log.change.LogChange.{LogChange}
 use Rattle.circ.specs.Log.Grows.{recovered}
-use Rattle.circ.specs.Log.Calls.{AgreesBeside, Pending}
+use Rattle.circ.specs.Log.Calls.{AgreesWithPending, Pending}
 use Rattle.circ.specs.Log.Installer.{next_home, with_inst_out}
 use Rattle.circ.specs.Log.Law.{with_changes}
 use Rattle.circ.specs.Log.Log.{Log, installed_place, place_before}
@@ -110,7 +110,7 @@ module _ (base : Image) (old new : CoreState) (same : HasSame old new) where
   module _ (d e : Device) (logging installing logged_next installing_next : Pending) (boot : ℕ)
       (first last : Tree) (entries : List Entry)
       (since : IsOpenSince base d old logging installing boot first entries last) (sound : IsSoundCore base new)
-      (agrees : AgreesBeside e base new.log logged_next installing_next)
+      (agrees : AgreesWithPending e base new.log logged_next installing_next)
       (readable : IsReadable e new.log installing_next) where
     still_over : IsOpenOver base e new logged_next installing_next boot since.home
         (drop (installed_place old.log) entries) last
@@ -118,7 +118,7 @@ module _ (base : Image) (old new : CoreState) (same : HasSame old new) where
       lawful = sound.lawful;
       agrees = agrees;
       readable = readable;
-      tidy = sound.tidy;
+      well_formed = sound.well_formed;
       files = files_same boot since.home last (drop (installed_place old.log) entries)
           since.over.files sound.home;
     }

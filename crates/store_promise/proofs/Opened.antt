@@ -48,16 +48,16 @@ bare_opening : (base : Image) (log : Log) (block : ℕ) → log.changes ≡ [] �
 bare_opening base log block none = ap (λ xs. with_changes base (recovered xs) block) none
 
 no_entry : (tree left : Tree) (count : ℕ) → after tree (take count []) left → left ≡ tree
-no_entry tree left zero led = led
-no_entry tree left (suc count) led = led
+no_entry tree left zero transition = transition
+no_entry tree left (suc count) transition = transition
 
 pub of_boot : (boot : ℕ) (tree : Tree) → IsMadeBy boot tree → (count : ℕ) (left : Tree)
     → after tree (take count []) left → IsMadeBy boot left
-of_boot boot tree all count left led = subst (IsMadeBy boot) (sym (no_entry tree left count led)) all
+of_boot boot tree all count left transition = subst (IsMadeBy boot) (sym (no_entry tree left count transition)) all
 
-stands_alone : (g : Geometry) (blocks : Image) (tree : Tree) (records : List Footprint) → records ≡ []
+stands_without_records : (g : Geometry) (blocks : Image) (tree : Tree) (records : List Footprint) → records ≡ []
     → Stands g blocks tree → IsChain g blocks tree records [] tree
-stands_alone g blocks tree records none stands =
+stands_without_records g blocks tree records none stands =
     subst (λ rs. IsChain g blocks tree rs [] tree) (sym none) (stands, refl)
 
 -- ---- the store that was opened
@@ -107,7 +107,7 @@ module _ (before opened : Device) (base : Image) (core : CoreState) (tree : Tree
     newest = new.newest good.super is_super;
     blocks_are = good.size_is ∙ size_is;
     inodes_are = new.inodes good.super is_super;
-    chain = stands_alone good.super.geometry (homes_of core.log.blocks (opening base core.log))
+    chain = stands_without_records good.super.geometry (homes_of core.log.blocks (opening base core.log))
         tree core.records new.records (subst (λ blocks. Stands good.super.geometry blocks tree)
         homes_are good.stands);
     stamps = of_boot (first + 1) tree good.stamps;
@@ -118,7 +118,7 @@ module _ (before opened : Device) (base : Image) (core : CoreState) (tree : Tree
     lawful = new.lawful;
     agrees = new.agrees;
     readable = new.readable;
-    tidy = new.tidy;
+    well_formed = new.well_formed;
     files = files;
   }
 
@@ -154,17 +154,17 @@ after_none blocks (suc n) block = refl
 module _ (base : Image) (core : CoreState) (boot : ℕ) (tree : Tree) (super : Super) (content : Content)
     (files : HasFilesOver base core boot tree [] tree) (changes : core.log.changes ≡ [])
     (records : core.records ≡ []) (present : core.present ≡ []) (is_block : length content ≡ BLOCK_BYTES) where
-  abbrev raised : Image
-  raised = with_home base SUPER_BLOCK content
+  abbrev incremented_image : Image
+  incremented_image = with_home base SUPER_BLOCK content
 
   -- each home is as it was
   home_aside : (number : ℕ) (home : Bool) → is_home core.log.blocks number ≡ home
       → cond home (opening base core.log number) (replicate BLOCK_BYTES 0)
-      ≡ cond home (opening raised core.log number) (replicate BLOCK_BYTES 0)
+      ≡ cond home (opening incremented_image core.log number) (replicate BLOCK_BYTES 0)
   home_aside number true is =
       bare_opening base core.log number changes
       ∙ sym (by_test (nat_eq number SUPER_BLOCK) refl)
-      ∙ sym (bare_opening raised core.log number changes)
+      ∙ sym (bare_opening incremented_image core.log number changes)
     where
       by_test : (same : Bool) → nat_eq number SUPER_BLOCK ≡ same
           → (if same then content else base number) ≡ base number
@@ -176,32 +176,32 @@ module _ (base : Image) (core : CoreState) (boot : ℕ) (tree : Tree) (super : S
   home_aside number false is = refl
 
   homes_same : homes_of core.log.blocks (opening base core.log)
-      ≡ homes_of core.log.blocks (opening raised core.log)
+      ≡ homes_of core.log.blocks (opening incremented_image core.log)
   homes_same = λ i number. home_aside number (is_home core.log.blocks number) refl i
 
-  leads : (count : ℕ) → LeadsTo raised core.log core.records count
+  leads : (count : ℕ) → LeadsTo incremented_image core.log core.records count
   leads count block =
-      bare raised core.log.changes count block changes ∙ sym (bare_opening raised core.log block changes)
-      ∙ sym (after_none (opening raised core.log) (commits_among core.log count) block)
-      ∙ ap (λ rs. after_commits (opening raised core.log) (take (commits_among core.log count) rs) block)
+      bare incremented_image core.log.changes count block changes ∙ sym (bare_opening incremented_image core.log block changes)
+      ∙ sym (after_none (opening incremented_image core.log) (commits_among core.log count) block)
+      ∙ ap (λ rs. after_commits (opening incremented_image core.log) (take (commits_among core.log count) rs) block)
       (sym records)
 
-  whole : AreBlocks core.log.blocks raised
+  whole : AreBlocks core.log.blocks incremented_image
   whole block within = by_test (nat_eq block SUPER_BLOCK)
     where
       by_test : (same : Bool) → length (if same then content else base block) ≡ BLOCK_BYTES
       by_test true = is_block
       by_test false = files.home.whole block within
 
-  window : IsCoreWindow raised core
+  window : IsCoreWindow incremented_image core
   window = record {
-    follow = subst (Follow (opening raised core.log)) (sym records) tt;
+    follow = subst (Follow (opening incremented_image core.log)) (sym records) tt;
     placed = files.home.window.placed;
     all = files.home.window.all;
     opened = files.home.window.opened;
     group = λ count ends none. leads count;
     written = files.home.window.written;
-    memory = subst (λ (ps : List Present). All (IsCurrent (now_of raised core.log core.records)) (held_of ps))
+    memory = subst (λ (ps : List Present). All (IsCurrent (now_of incremented_image core.log core.records)) (held_of ps))
         (sym present) (λ k d less. absurd (omega (arith, less)));
     pinned = files.home.window.pinned;
   }
@@ -214,11 +214,11 @@ module _ (base : Image) (core : CoreState) (boot : ℕ) (tree : Tree) (super : S
         (homes_of core.log.blocks (opening base core.log)) tree rs [] tree) records files.chain in
         chain.0
 
-    stands : Stands super.geometry (homes_of core.log.blocks (opening raised core.log)) tree
-    stands = subst (λ g. Stands g (homes_of core.log.blocks (opening raised core.log)) tree) (sym geometry)
+    stands : Stands super.geometry (homes_of core.log.blocks (opening incremented_image core.log)) tree
+    stands = subst (λ g. Stands g (homes_of core.log.blocks (opening incremented_image core.log)) tree) (sym geometry)
         (subst (λ blocks. Stands files.super.geometry blocks tree) homes_same stood)
 
-    pub under_new : HasFilesOver raised core super.boot tree [] tree
+    pub under_new : HasFilesOver incremented_image core super.boot tree [] tree
     under_new = record {
       home = record { whole = whole; window = window };
       super = super;
@@ -227,7 +227,7 @@ module _ (base : Image) (core : CoreState) (boot : ℕ) (tree : Tree) (super : S
       newest = ap (λ (g : Geometry). g.version) geometry ∙ files.newest;
       blocks_are = ap (λ (g : Geometry). g.blocks) geometry ∙ files.blocks_are;
       inodes_are = ap (λ (g : Geometry). g.inodes) geometry ∙ files.inodes_are;
-      chain = stands_alone super.geometry (homes_of core.log.blocks (opening raised core.log)) tree core.records
+      chain = stands_without_records super.geometry (homes_of core.log.blocks (opening incremented_image core.log)) tree core.records
           records stands;
       stamps = of_boot super.boot tree (λ number node is.
           let old = files.stamps 0 tree refl number node is in omega (arith, old, later));

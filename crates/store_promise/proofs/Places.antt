@@ -19,13 +19,13 @@ use Rattle.circ.specs.declared.log.change.LogChange.{LogChange}
 use Rattle.circ.specs.Log.Log.{installed_place, place_before}
 use Rattle.circ.proofs.LogLemmas.Ends.{place_le}
 use Rattle.store_promise.specs.OpenSince.{IsOpenSince, blocks_after, file_blocks}
-use Rattle.store_promise.specs.Running.{KeepsPlaces, with_blocks}
+use Rattle.store_promise.specs.Running.{PreservesPlaces, with_blocks}
 use Rattle.store_promise.specs.Schedule.{Setting}
-use Rattle.store_promise.proofs.OpenCommits.{HasChange, IsHomeAtOnce, blocks_kept, either}
+use Rattle.store_promise.proofs.OpenCommits.{HasChange, IsHomeAtOnce, blocks_preserved, either}
 use Rattle.store_promise.proofs.OpenInstalls.{earlier_then, gone}
 use Rattle.store_promise.proofs.OpenSteps.{HasSame, homes_same, installed_same}
 
-pub same_places : (base : Image) (old new : CoreState) → HasSame old new → KeepsPlaces base old base new
+pub same_places : (base : Image) (old new : CoreState) → HasSame old new → PreservesPlaces base old base new
 same_places base old new same = record {
   further = let is = installed_same base old new same in omega (arith, is);
   blocks = λ count.
@@ -40,7 +40,7 @@ pub places_home : (base : Image) (d : Device) (old new : CoreState) (logging ins
     (boot : ℕ) (first last : Tree) (entries : List Entry)
     → IsOpenSince base d old logging installing boot first entries last
     → new.log ≡ with_inst_back old.log ok → new.records ≡ past (installed_place new.log) old.records
-    → KeepsPlaces base old (home_after base old.log ok) new
+    → PreservesPlaces base old (home_after base old.log ok) new
 places_home base d old new logging installing ok boot first last entries since back records = record {
   further = (gone base d old new logging installing ok boot first last entries since back records).installed;
   blocks = earlier_then base d old new logging installing ok boot first last entries since back records;
@@ -50,11 +50,11 @@ places_home base d old new logging installing ok boot first last entries since b
 abbrev pub ArePlaced : Setting → Image → CoreState → Type 0
 ArePlaced o base core = (count : ℕ) → o.blocks (installed_place core.log + count) ≡ blocks_after base core count
 
-pub stay_placed : (o : Setting) (base home : Image) (old new : CoreState) → KeepsPlaces base old home new
+pub stay_placed : (o : Setting) (base home : Image) (old new : CoreState) → PreservesPlaces base old home new
     → ArePlaced o base old → ArePlaced o home new
-stay_placed o base home old new kept placed count =
-    ap o.blocks (let further = kept.further in omega (arith, further))
-    ∙ placed (installed_place new.log - installed_place old.log + count) ∙ sym (kept.blocks count)
+stay_placed o base home old new is_preserved placed count =
+    ap o.blocks (let further = is_preserved.further in omega (arith, further))
+    ∙ placed (installed_place new.log - installed_place old.log + count) ∙ sym (is_preserved.blocks count)
 
 -- ---- a commit
 
@@ -94,7 +94,7 @@ module _ (o : Setting) (base : Image) (d : Device) (old new : CoreState)
           let whole = all in
           early (installed_place new.log + count) (omega (arith, few, same, whole))
           ∙ ap (λ (n : ℕ). o.blocks (n + count)) same ∙ placed count
-          ∙ sym (blocks_kept base d old new logging installing boot first last entries tx place plan
+          ∙ sym (blocks_preserved base d old new logging installing boot first last entries tx place plan
           since took count few)
       by_count false is =
           let many = leb-false count (length old.records) is in
@@ -109,12 +109,12 @@ module _ (o : Setting) (base : Image) (d : Device) (old new : CoreState)
       let a = at_once.all in
       let b = took.places in
       let c = since.counted in
-      let lone : length new.records ≡ 0 = nothing_kept in
+      let lone : length new.records ≡ 0 = none_uninstalled in
       late (installed_place new.log + count) (omega (arith, a, b, c))
       ∙ sym (beyond count (omega (arith, lone)))
     where
-      nothing_kept : length new.records ≡ 0
-      nothing_kept =
+      none_uninstalled : length new.records ≡ 0
+      none_uninstalled =
           let there = ap (λ (xs : List LogChange). place_before xs old.log.places) at_once.none in
           let every = since.over.files.home.window.all in
           let same = ap (λ (rs : List Footprint). length rs) at_once.records in

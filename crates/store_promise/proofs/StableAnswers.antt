@@ -16,10 +16,10 @@ use Rattle.store_promise.specs.History.{IsHistory, WasCommitted}
 use Rattle.store_promise.specs.Progress.{Begun, Job, Progress, At, Stage, Called, Planning, Reading, Read}
 use Rattle.store_promise.specs.Progress.{Refused}
 use Rattle.store_promise.specs.Progress.{Again, Waiting, going_on, is_idle, progressed}
-use Rattle.store_promise.specs.Schedule.{Schedule, progress_before, told_before}
+use Rattle.store_promise.specs.Schedule.{Schedule, progress_before, state_before}
 use Rattle.store_promise.specs.Transcript.{Transcript, step_at, committed_at}
 use Rattle.store_promise.specs.Verdicts.{HasVerdict, IsAnswer, IsStableAnswer}
-use Rattle.store_promise.proofs.Told.{own_next, step_is}
+use Rattle.store_promise.proofs.RunStates.{own_next, step_is}
 
 pub one_more : (n : ℕ) → n + 1 ≡ suc n
 one_more n = omega arith
@@ -35,7 +35,7 @@ is_planning t asked (Planning begun) a blocks place has = (begun, refl)
 is_planning t asked (Reading begun addr) a blocks place has = absurd has
 is_planning t asked (Read begun addr ok) a blocks place has = absurd has
 is_planning t asked (Refused begun why) a blocks place has = absurd has
-is_planning t asked (Again begun wished) a blocks place has = absurd has
+is_planning t asked (Again begun request) a blocks place has = absurd has
 is_planning t asked (Waiting at) a blocks place has = absurd has
 
 -- and ends a call that isn't answered stable
@@ -73,7 +73,7 @@ module _ (events : Schedule) (t : Transcript) (a : Answer) (place : ℕ) (blocks
       answer.so_far ∙ ap (At answer.job) planning.1 in
       let next = own_next events t.steps a.event a.worker (committing_at blocks place) answer.event
       (step_is t a.event (committing_at blocks place) made) in
-      let broken = (told_before events t.steps a.event).log.broken in
+      let broken = (state_before events t.steps a.event).log.broken in
       unstable (is_answered_stable answer.job.call) answer.job place
       (ap is_idle (sym (ap (λ n. progress_before events t.steps a.worker n) (one_more a.event) ∙ next
       ∙ ap (progressed broken (committing_at blocks place)) before)) ∙ answer.ends)

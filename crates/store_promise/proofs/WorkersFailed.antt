@@ -13,28 +13,28 @@ use Rattle.store_promise.specs.declared.events.Event.{Event}
 use Rattle.store_promise.specs.declared.events.Event.TheVariants as event
 use Rattle.store_promise.specs.declared.events.Step.{Step}
 use Rattle.store_promise.specs.declared.events.Step.TheVariants as step
-use Rattle.store_promise.specs.declared.events.Wish.{Wish}
-use Rattle.store_promise.specs.declared.events.Wish.TheVariants as wish
+use Rattle.store_promise.specs.declared.events.LockAnswer.{LockAnswer}
+use Rattle.store_promise.specs.declared.events.LockAnswer.TheVariants as lock_answer
 use Rattle.store_promise.specs.CauseOfIo.{IsOfLog}
-use Rattle.store_promise.specs.LogTold.{LogTold, log_moved}
+use Rattle.store_promise.specs.LogState.{LogState, log_moved}
 use Rattle.store_promise.specs.Progress.{Again, At, Begun, Called, Idle, Job, Planning, Progress, Read}
 use Rattle.store_promise.specs.Progress.{Reading, Refused}
 use Rattle.store_promise.specs.Progress.{Stage, Waiting, after_called, after_commit, after_planning}
 use Rattle.store_promise.specs.Progress.{after_waiting}
-use Rattle.store_promise.specs.Progress.{going_on, is_idle, kept_off, progressed}
-use Rattle.store_promise.specs.Aims.{is_barred}
-use Rattle.store_promise.specs.declared.aims.Aim.{Aim}
-use Rattle.store_promise.specs.declared.aims.Aim.TheVariants as aim
-use Rattle.store_promise.specs.Schedule.{IsBeginning, IsClaimWish, IsCommitting, IsRetaking, IsStepBeside}
-use Rattle.store_promise.specs.Schedule.{IsStepByPlan, IsStepOfCall, IsWish, wish_of}
+use Rattle.store_promise.specs.Progress.{going_on, is_idle, deferred, progressed}
+use Rattle.store_promise.specs.LockRequests.{is_barred}
+use Rattle.store_promise.specs.declared.lock_requests.LockRequest.{LockRequest}
+use Rattle.store_promise.specs.declared.lock_requests.LockRequest.TheVariants as lock_request
+use Rattle.store_promise.specs.Schedule.{IsBeginning, IsClaimAnswer, IsCommitting, IsRetaking, IsStepRetakingFirst}
+use Rattle.store_promise.specs.Schedule.{IsStepByPlan, IsStepOfCall, IsLockAnswer, range_request_at}
 use Rattle.store_promise.specs.Schedule.{IsStepOfCalled, IsStepOfRead, IsStepOfWaiting, IsStepOfWork}
 use Rattle.store_promise.specs.EventSteps.{IsTaken}
 use Rattle.store_promise.specs.Schedule.{Setting}
-use Rattle.store_promise.specs.Schedule.{Told, told_after}
+use Rattle.store_promise.specs.Schedule.{RunState, state_after}
 use Rattle.store_promise.specs.Transcript.{fails}
-use Rattle.store_promise.proofs.FailuresTold.{LogShows, cleared, inst_goes, inst_made, is_broken, is_of_log}
-use Rattle.store_promise.proofs.FailuresTold.{log_goes, log_made, quiet}
-use Rattle.store_promise.proofs.Told.{may_be}
+use Rattle.store_promise.proofs.LogFailures.{LogShows, cleared, inst_goes, inst_made, is_broken, is_of_log}
+use Rattle.store_promise.proofs.LogFailures.{log_goes, log_made, quiet}
+use Rattle.store_promise.proofs.RunStates.{may_be}
 
 -- its read has failed, or its call is refused with IO
 abbrev pub has_failed : Stage → Bool
@@ -48,49 +48,49 @@ shows (At job stage) = has_failed stage
 
 -- ---- which steps an event of a worker makes
 
-of_beginning : (told : Told) (one : Step) → IsBeginning told one → is_of_log one ≡ false
-of_beginning told (step.Begun (Ok number)) is = refl
-of_beginning told (step.Begun (Err why)) is = refl
-of_beginning told _ is = absurd is
+of_beginning : (run_state : RunState) (one : Step) → IsBeginning run_state one → is_of_log one ≡ false
+of_beginning run_state (step.Begun (Ok number)) is = refl
+of_beginning run_state (step.Begun (Err why)) is = refl
+of_beginning run_state _ is = absurd is
 
-of_called : (told : Told) (ruled : Bool) (one : Step) → IsStepOfCalled told ruled one → is_of_log one ≡ false
-of_called told true one is = of_beginning told one is
-of_called told false one is = ap is_of_log is
+of_called : (run_state : RunState) (ruled : Bool) (one : Step) → IsStepOfCalled run_state ruled one → is_of_log one ≡ false
+of_called run_state true one is = of_beginning run_state one is
+of_called run_state false one is = ap is_of_log is
 
-of_plan : (o : Setting) (told : Told) (worker : ℕ) (begun : Begun) (one : Step)
-    → IsStepByPlan o told worker begun one → is_of_log one ≡ false
-of_plan o told worker begun (step.Wanted addr mode answer) is = refl
-of_plan o told worker begun (step.Claimed block answer) is = refl
-of_plan o told worker begun (step.Commit blocks answer) is = refl
-of_plan o told worker begun (step.Ended why) is = refl
-of_plan o told worker begun _ is = absurd is
+of_plan : (o : Setting) (run_state : RunState) (worker : ℕ) (begun : Begun) (one : Step)
+    → IsStepByPlan o run_state worker begun one → is_of_log one ≡ false
+of_plan o run_state worker begun (step.Wanted addr mode answer) is = refl
+of_plan o run_state worker begun (step.Claimed block answer) is = refl
+of_plan o run_state worker begun (step.Commit blocks answer) is = refl
+of_plan o run_state worker begun (step.Ended why) is = refl
+of_plan o run_state worker begun _ is = absurd is
 
-of_next : (told : Told) (worker : ℕ) (begun : Begun) (next : Aim) (one : Step)
-    → IsRetaking told worker begun next one → is_of_log one ≡ false
-of_next told worker begun next (step.Wanted addr mode answer) is = refl
-of_next told worker begun next (step.Claimed block answer) is = refl
-of_next told worker begun next _ is = absurd is
+of_next : (run_state : RunState) (worker : ℕ) (begun : Begun) (next : LockRequest) (one : Step)
+    → IsRetaking run_state worker begun next one → is_of_log one ≡ false
+of_next run_state worker begun next (step.Wanted addr mode answer) is = refl
+of_next run_state worker begun next (step.Claimed block answer) is = refl
+of_next run_state worker begun next _ is = absurd is
 
-of_within : (o : Setting) (told : Told) (worker : ℕ) (begun : Begun) (left : List Aim) (one : Step)
-    → IsStepBeside left o told worker begun one → is_of_log one ≡ false
-of_within o told worker begun [] one is = of_plan o told worker begun one is
-of_within o told worker begun (next ∷ later) one is = of_next told worker begun next one is
+of_within : (o : Setting) (run_state : RunState) (worker : ℕ) (begun : Begun) (left : List LockRequest) (one : Step)
+    → IsStepRetakingFirst left o run_state worker begun one → is_of_log one ≡ false
+of_within o run_state worker begun [] one is = of_plan o run_state worker begun one is
+of_within o run_state worker begun (next ∷ later) one is = of_next run_state worker begun next one is
 
-of_waiting : (log : LogTold) (place : ℕ) (one : Step) → IsStepOfWaiting log place one → is_of_log one ≡ false
+of_waiting : (log : LogState) (place : ℕ) (one : Step) → IsStepOfWaiting log place one → is_of_log one ≡ false
 of_waiting log place (step.Stable seq settled) is = refl
 of_waiting log place _ is = absurd is
 
-of_work : (o : Setting) (told : Told) (worker : ℕ) (so_far : Progress) (one : Step)
-    → IsStepOfWork o told worker so_far (Some one) → is_of_log one ≡ false
-of_work o told worker Idle one is = cc
-of_work o told worker (At job (Called known)) one is = of_called told (begins_transaction job.call) one is
-of_work o told worker (At job (Planning begun)) one is = of_within o told worker begun begun.left one is
-of_work o told worker (At job (Reading begun taken)) one is = cc
-of_work o told worker (At job (Read begun taken true)) one is = ap is_of_log is
-of_work o told worker (At job (Read begun taken false)) one is = ap is_of_log is
-of_work o told worker (At job (Refused begun why)) one is = ap is_of_log is
-of_work o told worker (At job (Again begun wished)) one is = ap is_of_log is
-of_work o told worker (At job (Waiting place)) one is = of_waiting told.log place one is
+of_work : (o : Setting) (run_state : RunState) (worker : ℕ) (so_far : Progress) (one : Step)
+    → IsStepOfWork o run_state worker so_far (Some one) → is_of_log one ≡ false
+of_work o run_state worker Idle one is = cc
+of_work o run_state worker (At job (Called known)) one is = of_called run_state (begins_transaction job.call) one is
+of_work o run_state worker (At job (Planning begun)) one is = of_within o run_state worker begun begun.left one is
+of_work o run_state worker (At job (Reading begun taken)) one is = cc
+of_work o run_state worker (At job (Read begun taken true)) one is = ap is_of_log is
+of_work o run_state worker (At job (Read begun taken false)) one is = ap is_of_log is
+of_work o run_state worker (At job (Refused begun why)) one is = ap is_of_log is
+of_work o run_state worker (At job (Again begun request)) one is = ap is_of_log is
+of_work o run_state worker (At job (Waiting place)) one is = of_waiting run_state.log place one is
 
 -- a read that is due, which the worker has a call for
 module _ (broken : Bool) where
@@ -102,7 +102,7 @@ module _ (broken : Bool) where
   read_goes (At job (Planning begun)) one is = cc
   read_goes (At job (Read begun taken ok)) one is = cc
   read_goes (At job (Refused begun why)) one is = cc
-  read_goes (At job (Again begun wished)) one is = cc
+  read_goes (At job (Again begun request)) one is = cc
   read_goes (At job (Waiting place)) one is = cc
 
   read_fails : (so_far : Progress) (one : Step) → IsStepOfRead so_far (Some one)
@@ -114,57 +114,57 @@ module _ (broken : Bool) where
   read_fails (At job (Planning begun)) one is so = cc
   read_fails (At job (Read begun taken ok)) one is so = cc
   read_fails (At job (Refused begun why)) one is so = cc
-  read_fails (At job (Again begun wished)) one is so = cc
+  read_fails (At job (Again begun request)) one is so = cc
   read_fails (At job (Waiting place)) one is so = cc
 
 -- ---- a step of its work leads to no failure that wasn't there
 
-module _ (o : Setting) (told : Told) (worker : ℕ) (job : Job) where
+module _ (o : Setting) (run_state : RunState) (worker : ℕ) (job : Job) where
   abbrev WasShown : Stage → Type 0
-  WasShown stage = (has_failed stage ≡ true) ⊎ (told.log.broken ≡ true)
+  WasShown stage = (has_failed stage ≡ true) ⊎ (run_state.log.broken ≡ true)
 
-  by_called : (known : List Aim) (one : Step) → shows (going_on job (after_called known one)) ≡ true → ⊥
+  by_called : (known : List LockRequest) (one : Step) → shows (going_on job (after_called known one)) ≡ true → ⊥
   by_called known (step.Begun (Ok number)) so = cc
   by_called known (step.Begun (Err why)) so = cc
   by_called known _ so = cc
 
   module _ (begun : Begun) where
-    off : (wished : Aim) → shows (At job (kept_off begun wished)) ≡ true → ⊥
-    off wished so = by (is_barred wished begun.taken) so
+    off : (request : LockRequest) → shows (At job (deferred begun request)) ≡ true → ⊥
+    off request so = by (is_barred request begun.taken) so
       where
-        by : (above : Bool) → shows (At job (if above then Again begun (Some wished) else Planning begun)) ≡ true
+        by : (above : Bool) → shows (At job (if above then Again begun (Some request) else Planning begun)) ≡ true
             → ⊥
         by true so = cc
         by false so = cc
 
-    by_wanted : (addr : Addr) (mode : Mode) (answer : Wish) → IsWish told worker begun (wish_of addr mode) answer
+    by_wanted : (addr : Addr) (mode : Mode) (answer : LockAnswer) → IsLockAnswer run_state worker begun (range_request_at addr mode) answer
         → shows (going_on job (after_planning (is_answered_stable job.call) begun
         (step.Wanted addr mode answer)))
         ≡ true → ⊥
-    by_wanted addr mode wish.Held is so = cc
-    by_wanted addr mode wish.Fetch is so = cc
-    by_wanted addr mode wish.Busy is so = off (aim.Object addr mode) so
-    by_wanted addr mode wish.Loading is so = off (aim.Object addr mode) so
-    by_wanted addr mode wish.Outside is so = is
-    by_wanted addr mode wish.NoMemory is so = cc
+    by_wanted addr mode lock_answer.Held is so = cc
+    by_wanted addr mode lock_answer.Fetch is so = cc
+    by_wanted addr mode lock_answer.Busy is so = off (lock_request.Object addr mode) so
+    by_wanted addr mode lock_answer.Loading is so = off (lock_request.Object addr mode) so
+    by_wanted addr mode lock_answer.Outside is so = is
+    by_wanted addr mode lock_answer.NoMemory is so = cc
 
-    by_claimed : (block : BlockNo) (answer : Wish) → IsClaimWish told worker begun block answer
+    by_claimed : (block : BlockNo) (answer : LockAnswer) → IsClaimAnswer run_state worker begun block answer
         → shows (going_on job (after_planning (is_answered_stable job.call) begun (step.Claimed block answer)))
         ≡ true → ⊥
-    by_claimed block wish.Held is so = cc
-    by_claimed block wish.Fetch is so = cc
-    by_claimed block wish.Busy is so = off (aim.Claim block) so
-    by_claimed block wish.Loading is so = off (aim.Claim block) so
-    by_claimed block wish.Outside is so = is
-    by_claimed block wish.NoMemory is so = cc
+    by_claimed block lock_answer.Held is so = cc
+    by_claimed block lock_answer.Fetch is so = cc
+    by_claimed block lock_answer.Busy is so = off (lock_request.Claim block) so
+    by_claimed block lock_answer.Loading is so = off (lock_request.Claim block) so
+    by_claimed block lock_answer.Outside is so = is
+    by_claimed block lock_answer.NoMemory is so = cc
 
     committed : (stable : Bool) (place : ℕ)
         → shows (going_on job (if stable then Some (Waiting place) else None)) ≡ true → ⊥
     committed true place so = cc
     committed false place so = cc
 
-    by_commit : (stable : Bool) (blocks : List BlockNo) (answer : Committing) → IsCommitting o told.log blocks answer
-        → shows (going_on job (after_commit stable begun answer)) ≡ true → told.log.broken ≡ true
+    by_commit : (stable : Bool) (blocks : List BlockNo) (answer : Committing) → IsCommitting o run_state.log blocks answer
+        → shows (going_on job (after_commit stable begun answer)) ≡ true → run_state.log.broken ≡ true
     by_commit stable blocks (committing.Committed place) is so = absurd (committed stable place.0 so)
     by_commit stable blocks committing.Full is so = cc
     by_commit stable blocks committing.Foreign is so = cc
@@ -172,24 +172,24 @@ module _ (o : Setting) (told : Told) (worker : ℕ) (job : Job) where
     by_commit stable blocks committing.Broken is so = is
     by_commit stable blocks committing.Spent is so = cc
 
-    by_plan : (one : Step) → IsStepByPlan o told worker begun one
+    by_plan : (one : Step) → IsStepByPlan o run_state worker begun one
         → shows (going_on job (after_planning (is_answered_stable job.call) begun one)) ≡ true
-        → told.log.broken ≡ true
+        → run_state.log.broken ≡ true
     by_plan (step.Wanted addr mode answer) is so = absurd (by_wanted addr mode answer is.1 so)
     by_plan (step.Claimed block answer) is so = absurd (by_claimed block answer is.1 so)
     by_plan (step.Commit blocks answer) is so = by_commit (is_answered_stable job.call) blocks answer is.1 so
     by_plan (step.Ended why) is so = cc
     by_plan _ is so = absurd is
 
-    by_next : (next : Aim) (one : Step) → IsRetaking told worker begun next one
+    by_next : (next : LockRequest) (one : Step) → IsRetaking run_state worker begun next one
         → shows (going_on job (after_planning (is_answered_stable job.call) begun one)) ≡ true → ⊥
     by_next next (step.Wanted addr mode answer) is so = by_wanted addr mode answer is.1 so
     by_next next (step.Claimed block answer) is so = by_claimed block answer is.1 so
     by_next next _ is so = is
 
-    by_within : (left : List Aim) (one : Step) → IsStepBeside left o told worker begun one
+    by_within : (left : List LockRequest) (one : Step) → IsStepRetakingFirst left o run_state worker begun one
         → shows (going_on job (after_planning (is_answered_stable job.call) begun one)) ≡ true
-        → told.log.broken ≡ true
+        → run_state.log.broken ≡ true
     by_within [] one is so = by_plan one is so
     by_within (next ∷ later) one is so = absurd (by_next next one is so)
 
@@ -204,65 +204,65 @@ module _ (o : Setting) (told : Told) (worker : ℕ) (job : Job) where
   by_waiting broken place (step.Stable seq settled) so = waited (settled || broken) place so
   by_waiting broken place _ so = cc
 
-  by_stage : (stage : Stage) (one : Step) → IsStepOfWork o told worker (At job stage) (Some one)
-      → shows (progressed told.log.broken one (At job stage)) ≡ true → WasShown stage
+  by_stage : (stage : Stage) (one : Step) → IsStepOfWork o run_state worker (At job stage) (Some one)
+      → shows (progressed run_state.log.broken one (At job stage)) ≡ true → WasShown stage
   by_stage (Called known) one is so = absurd (by_called known one so)
   by_stage (Planning begun) one is so = inr (by_within begun begun.left one is so)
   by_stage (Reading begun taken) one is so = cc
   by_stage (Read begun taken true) one is so = cc
   by_stage (Read begun taken false) one is so = inl refl
   by_stage (Refused begun why) one is so = cc
-  by_stage (Again begun wished) one is so = cc
-  by_stage (Waiting place) one is so = absurd (by_waiting told.log.broken place one so)
+  by_stage (Again begun request) one is so = cc
+  by_stage (Waiting place) one is so = absurd (by_waiting run_state.log.broken place one so)
 
-work_shows : (o : Setting) (told : Told) (worker : ℕ) (so_far : Progress) (one : Step)
-    → IsStepOfWork o told worker so_far (Some one) → shows (progressed told.log.broken one so_far) ≡ true
-    → (shows so_far ≡ true) ⊎ (told.log.broken ≡ true)
-work_shows o told worker Idle one is so = cc
-work_shows o told worker (At job stage) one is so = by_stage o told worker job stage one is so
+work_shows : (o : Setting) (run_state : RunState) (worker : ℕ) (so_far : Progress) (one : Step)
+    → IsStepOfWork o run_state worker so_far (Some one) → shows (progressed run_state.log.broken one so_far) ≡ true
+    → (shows so_far ≡ true) ⊎ (run_state.log.broken ≡ true)
+work_shows o run_state worker Idle one is so = cc
+work_shows o run_state worker (At job stage) one is so = by_stage o run_state worker job stage one is so
 
 -- ---- an event
 
 -- what comes of an event shows a failure of a worker: so it was, or its read has failed just now, or the log
 -- had
-pub data Showed (told : Told) (e : Event) (m : Option Step) (worker : ℕ) : Type 0 where
-  before : shows (told.workers worker) ≡ true → Showed told e m worker
-  of_log : LogShows told.log → Showed told e m worker
-  reads : e ≡ event.Read worker → fails m ≡ true → is_idle (told.workers worker) ≡ false
-      → Showed told e m worker
+pub data Showed (run_state : RunState) (e : Event) (m : Option Step) (worker : ℕ) : Type 0 where
+  before : shows (run_state.workers worker) ≡ true → Showed run_state e m worker
+  of_log : LogShows run_state.log → Showed run_state e m worker
+  reads : e ≡ event.Read worker → fails m ≡ true → is_idle (run_state.workers worker) ≡ false
+      → Showed run_state e m worker
 
 call_is : (so_far : Progress) (one : Step) → IsStepOfCall so_far (Some one) → is_of_log one ≡ false
 call_is Idle one is =
     let same : one ≡ step.Called = cc in ap is_of_log same
 call_is (At job stage) one is = cc
 
-module _ (o : Setting) (workers : ℕ) (told : Told) where
-  silent : (one : Step) → is_of_log one ≡ false → LogShows (log_moved told.log one) → LogShows told.log
-  silent one never = cleared told.log (log_moved told.log one) (quiet told.log one never)
+module _ (o : Setting) (workers : ℕ) (run_state : RunState) where
+  silent : (one : Step) → is_of_log one ≡ false → LogShows (log_moved run_state.log one) → LogShows run_state.log
+  silent one never = cleared run_state.log (log_moved run_state.log one) (quiet run_state.log one never)
 
-  pub log_came : (e : Event) (m : Option Step) → IsTaken o workers told e m → LogShows (told_after told e m).log
-      → LogShows told.log ⊎ ((fails m ≡ true) × IsOfLog (Some e))
+  pub log_came : (e : Event) (m : Option Step) → IsTaken o workers run_state e m → LogShows (state_after run_state e m).log
+      → LogShows run_state.log ⊎ ((fails m ≡ true) × IsOfLog (Some e))
   log_came e None taken so = inl so
   log_came (event.Call number credential moment call) (Some one) taken so =
-      inl (silent one (call_is (told.workers number) one
-      (may_be o workers told (event.Call number credential moment call) one taken)) so)
+      inl (silent one (call_is (run_state.workers number) one
+      (may_be o workers run_state (event.Call number credential moment call) one taken)) so)
   log_came (event.Work number) (Some one) taken so =
-      inl (silent one (of_work o told number (told.workers number) one
-      (may_be o workers told (event.Work number) one taken)) so)
+      inl (silent one (of_work o run_state number (run_state.workers number) one
+      (may_be o workers run_state (event.Work number) one taken)) so)
   log_came (event.Read number) (Some one) taken so =
-      inl (silent one (read_goes told.log.broken (told.workers number) one
-      (may_be o workers told (event.Read number) one taken)) so)
+      inl (silent one (read_goes run_state.log.broken (run_state.workers number) one
+      (may_be o workers run_state (event.Read number) one taken)) so)
   log_came event.Log (Some one) taken so =
-      inl (log_goes o told.log told.log.log_call one refl (may_be o workers told event.Log one taken) so)
+      inl (log_goes o run_state.log run_state.log.log_call one refl (may_be o workers run_state event.Log one taken) so)
   log_came event.Install (Some one) taken so =
-      inl (inst_goes o told.log told.log.inst_call one refl (may_be o workers told event.Install one taken) so)
+      inl (inst_goes o run_state.log run_state.log.inst_call one refl (may_be o workers run_state event.Install one taken) so)
   log_came event.LogIo (Some one) taken so =
-      elim (log_made told.log told.log.log_call one refl (may_be o workers told event.LogIo one taken) so) [
+      elim (log_made run_state.log run_state.log.log_call one refl (may_be o workers run_state event.LogIo one taken) so) [
         | inl earlier ↦ inl earlier
         | inr now ↦ inr (now, inl refl)
       ]
   log_came event.InstIo (Some one) taken so =
-      elim (inst_made told.log told.log.inst_call one refl (may_be o workers told event.InstIo one taken) so) [
+      elim (inst_made run_state.log run_state.log.inst_call one refl (may_be o workers run_state event.InstIo one taken) so) [
         | inl earlier ↦ inl earlier
         | inr now ↦ inr (now, inr refl)
       ]
@@ -272,44 +272,44 @@ module _ (o : Setting) (workers : ℕ) (told : Told) where
     same_number number is = grind (arith, nat_tests)
 
     by_call : (job : Job) (e : Event) (m : Option Step) (same : Bool)
-        → shows (if same then At job (Called []) else told.workers worker) ≡ true → Showed told e m worker
+        → shows (if same then At job (Called []) else run_state.workers worker) ≡ true → Showed run_state e m worker
     by_call job e m true so = cc
     by_call job e m false so = before so
 
-    by_work : (number : ℕ) (one : Step) → IsStepOfWork o told number (told.workers number) (Some one)
+    by_work : (number : ℕ) (one : Step) → IsStepOfWork o run_state number (run_state.workers number) (Some one)
         → (same : Bool)
         → nat_eq worker number ≡ same
-        → shows (if same then progressed told.log.broken one (told.workers number) else told.workers
+        → shows (if same then progressed run_state.log.broken one (run_state.workers number) else run_state.workers
         worker) ≡ true
-        → Showed told (event.Work number) (Some one) worker
+        → Showed run_state (event.Work number) (Some one) worker
     by_work number one may true same so =
-        elim (work_shows o told number (told.workers number) one may so) [
-          | inl earlier ↦ before (subst (λ n. shows (told.workers n) ≡ true) (same_number number same) earlier)
+        elim (work_shows o run_state number (run_state.workers number) one may so) [
+          | inl earlier ↦ before (subst (λ n. shows (run_state.workers n) ≡ true) (same_number number same) earlier)
           | inr broken ↦ of_log (is_broken broken)
         ]
     by_work number one may false same so = before so
 
-    by_read : (number : ℕ) (one : Step) → IsStepOfRead (told.workers number) (Some one) → (same : Bool)
+    by_read : (number : ℕ) (one : Step) → IsStepOfRead (run_state.workers number) (Some one) → (same : Bool)
         → nat_eq worker number ≡ same
-        → shows (if same then progressed told.log.broken one (told.workers number) else told.workers
+        → shows (if same then progressed run_state.log.broken one (run_state.workers number) else run_state.workers
         worker) ≡ true
-        → Showed told (event.Read number) (Some one) worker
+        → Showed run_state (event.Read number) (Some one) worker
     by_read number one may true same so =
         let numbers = same_number number same in
-        let both = read_fails told.log.broken (told.workers number) one may so in
-        reads (ap event.Read numbers) both.0 (subst (λ n. is_idle (told.workers n) ≡ false) numbers both.1)
+        let both = read_fails run_state.log.broken (run_state.workers number) one may so in
+        reads (ap event.Read numbers) both.0 (subst (λ n. is_idle (run_state.workers n) ≡ false) numbers both.1)
     by_read number one may false same so = before so
 
-    pub worker_came : (e : Event) (m : Option Step) → IsTaken o workers told e m
-        → shows ((told_after told e m).workers worker) ≡ true → Showed told e m worker
+    pub worker_came : (e : Event) (m : Option Step) → IsTaken o workers run_state e m
+        → shows ((state_after run_state e m).workers worker) ≡ true → Showed run_state e m worker
     worker_came e None taken so = before so
     worker_came (event.Call number credential moment call) (Some one) taken so =
         by_call (record { credential = credential; moment = moment; call = call })
         (event.Call number credential moment call) (Some one) (nat_eq worker number) so
     worker_came (event.Work number) (Some one) taken so =
-        by_work number one (may_be o workers told (event.Work number) one taken) (nat_eq worker number) refl so
+        by_work number one (may_be o workers run_state (event.Work number) one taken) (nat_eq worker number) refl so
     worker_came (event.Read number) (Some one) taken so =
-        by_read number one (may_be o workers told (event.Read number) one taken) (nat_eq worker number) refl so
+        by_read number one (may_be o workers run_state (event.Read number) one taken) (nat_eq worker number) refl so
     worker_came event.Log (Some one) taken so = before so
     worker_came event.LogIo (Some one) taken so = before so
     worker_came event.Install (Some one) taken so = before so

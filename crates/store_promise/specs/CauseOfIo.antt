@@ -34,6 +34,6 @@ pub record HasFailedFor (failed : ℕ → Bool) (start : ℕ) (events : Schedule
     (a : Answer) : Type 0 where
   pub index : ℕ
   pub earlier : index < a.event
-  pub told : fails (step_at t index) ≡ true
+  pub step_failed : fails (step_at t index) ≡ true
   pub so : failed (start + device_calls t index) ≡ true
   pub whose : IsOfLog (slice_get events index) ⊎ IsReadFor events t a.worker index a.event

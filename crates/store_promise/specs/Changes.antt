@@ -10,19 +10,19 @@ use Rattle.store_promise.specs.declared.events.Committing.TheVariants as committ
 use Rattle.store_promise.specs.declared.events.Step.TheVariants as step
 use Rattle.store_promise.specs.declared.transcript.Committed.{Committed}
 use Rattle.store_promise.specs.Progress.{At, Begun, Job, Planning, takes}
-use Rattle.store_promise.specs.Schedule.{Schedule, progress_before, wish_of}
+use Rattle.store_promise.specs.Schedule.{Schedule, progress_before, range_request_at}
 use Rattle.store_promise.specs.Transcript.{Transcript, step_at}
 
 -- Of an image of so many blocks, what shares no byte with what the transaction has taken alone has the bytes that
 -- it had: what it shares with others, too.
-abbrev pub KeepsOthers : ℕ → Begun → Image → Image → Type 0
-KeepsOthers size begun old new = (addr : Addr) → addr.block.0 < size
-    → takes (wish_of addr modes.Shared) begun ≡ false
+abbrev pub PreservesOthers : ℕ → Begun → Image → Image → Type 0
+PreservesOthers size begun old new = (addr : Addr) → addr.block.0 < size
+    → takes (range_request_at addr modes.Shared) begun ≡ false
     → object_at new addr ≡ object_at old addr
 
 -- Of an image of so many blocks, those that aren't among these are what they were.
-abbrev pub KeepsUnnamed : ℕ → List BlockNo → Image → Image → Type 0
-KeepsUnnamed size named old new = (block : BlockNo) → block.0 < size → is_among block named ≡ false
+abbrev pub PreservesUnnamed : ℕ → List BlockNo → Image → Image → Type 0
+PreservesUnnamed size named old new = (block : BlockNo) → block.0 < size → is_among block named ≡ false
     → new block.0 ≡ old block.0
 
 -- The procedure of a place changed the blocks before it only in what its transaction had taken alone when it was
@@ -34,8 +34,8 @@ pub record ChangesItsOwn (size : ℕ) (events : Schedule) (t : Transcript) (bloc
   pub planned : progress_before events t.steps c.worker c.event ≡ At job (Planning begun)
   pub named : List BlockNo
   pub step : step_at t c.event ≡ Some (step.Commit named (committing.Committed (record { 0 = index + 1 })))
-  pub others : KeepsOthers size begun (blocks index) (blocks (index + 1))
-  pub unnamed : KeepsUnnamed size named (blocks index) (blocks (index + 1))
+  pub others : PreservesOthers size begun (blocks index) (blocks (index + 1))
+  pub unnamed : PreservesUnnamed size named (blocks index) (blocks (index + 1))
 
 -- so did each
 abbrev pub ChangeTheirOwn : ℕ → Schedule → Transcript → (ℕ → Image) → Type 0

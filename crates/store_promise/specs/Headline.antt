@@ -18,10 +18,10 @@ use Rattle.store_promise.specs.DeviceCalls.{DoEachStep}
 use Rattle.store_promise.specs.FailedCalls.{TellEachFailure}
 use Rattle.store_promise.specs.GoodImage.{IsGoodImage}
 use Rattle.store_promise.specs.History.{IsHistory}
-use Rattle.store_promise.specs.LogTold.{settled_told}
+use Rattle.store_promise.specs.LogState.{state_settled}
 use Rattle.store_promise.specs.Openings.{AtEachStop, IsBootOf, IsLater, IsOpened, IsRefused, LeavesImages}
 use Rattle.store_promise.specs.Prefix.{HasPrefix}
-use Rattle.store_promise.specs.Schedule.{Schedule, Setting, SoundEvents, told_before}
+use Rattle.store_promise.specs.Schedule.{Schedule, Setting, SoundEvents, state_before}
 use Rattle.store_promise.specs.EventSteps.{AreTaken}
 use Rattle.store_promise.specs.Transcript.{Transcript, Report, entries_of, device_calls, commits_by, fails}
 use Rattle.store_promise.specs.Verdicts.{IsStableAnswer, IsCoveredWrite, AreAnswers}
@@ -34,12 +34,12 @@ pub data WasPromised (events : Schedule) (start : ℕ) (t : Transcript) (clock p
   by_commit : (a : Answer) → Contains t.answers a → start + a.clock ≤ clock → IsCoveredWrite t a place
       → WasPromised events start t clock place
   by_steps : (index : ℕ) → index ≤ length t.steps → start + device_calls t index ≤ clock
-      → place ≤ settled_told (told_before events t.steps index).log → WasPromised events start t clock place
+      → place ≤ state_settled (state_before events t.steps index).log → WasPromised events start t clock place
 
 -- the boot number is that before the opening, or that of it, and the latter once the opening has ended
 pub record IsBootBy (first start clock boot : ℕ) : Type 0 where
   pub either : IsBootOf first boot
-  pub raised : start ≤ clock → boot ≡ first + 1
+  pub boot_incremented : start ≤ clock → boot ≡ first + 1
 
 -- What a stop at a clock leaves has a prefix of the history, committed by then, that holds what was promised to
 -- last.
@@ -77,7 +77,7 @@ pub record MakesItsCalls (opened later : Device) (events : Schedule) (t : Transc
   pub clock : later.clock ≡ opened.clock + device_calls t (length t.steps)
   pub failures : later.failures ≡ opened.failures + count_by fails t.steps
   -- each of them is told to have failed just where that very call did
-  pub told : TellEachFailure later.failed opened.clock t.steps
+  pub failures_match : TellEachFailure later.failed opened.clock t.steps
   -- and does what its step names
   pub did : DoEachStep later.contents events opened.clock t.steps
 
@@ -106,7 +106,7 @@ pub record AnswersInOrder (size : ℕ) (tree : Tree) (first workers : ℕ) (even
 
 -- The promise of a run with so many workers, which took events on a device whose image had this tree and this
 -- boot number, and left the device as it became.
-pub record KeepsPromise (before later : Device) (tree : Tree) (first workers : ℕ) (events : Schedule)
+pub record PreservesPromise (before later : Device) (tree : Tree) (first workers : ℕ) (events : Schedule)
     (t : Transcript) : Type 0 where
   pub opened : Device
   pub setting : Setting
@@ -128,8 +128,8 @@ pub record MayRun (keeps_model : Type 0) (before : Device) (tree : Tree) (first 
 -- A run comes to an end: it keeps its promise, and took each event, or fewer where memory was refused to it.
 pub record EndsWell (before later : Device) (tree : Tree) (first workers : ℕ) (events : Schedule)
     (report : Report) : Type 0 where
-  pub keeps : KeepsPromise before later tree first workers events report.told
-  pub all : length report.told.steps < length events → 0 < report.refused
+  pub preserves : PreservesPromise before later tree first workers events report.run_transcript
+  pub all : length report.run_transcript.steps < length events → 0 < report.refused
 
 -- what comes of a run: what it hands back, or why the store wasn't opened
 abbrev pub ComesOfRun : Device → Device → Tree → ℕ → ℕ → Schedule → Result Report OpenFault → Type 0

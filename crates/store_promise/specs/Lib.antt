@@ -1,8 +1,8 @@
 pub mod GoodImage
 pub mod Transcript
-pub mod Aims
+pub mod LockRequests
 pub mod Progress
-pub mod LogTold
+pub mod LogState
 pub mod NextCall
 pub mod Openings
 pub mod FailedCalls
@@ -17,8 +17,8 @@ pub mod CauseOfIo
 pub mod Prefix
 pub mod Changes
 pub mod Headline
-pub mod Room
+pub mod RunCapacity
 pub mod OpenStore
-pub mod ToldOf
+pub mod LogStateOf
 pub mod OpenSince
 pub mod Running

@@ -19,7 +19,7 @@ use Rattle.circ.specs.Log.Log.{IsLawful, installed_place, settled_place}
 use Rattle.txn_law.specs.Commit.{Planned}
 use Rattle.txn_law.specs.Core.{CoreState}
 use Rattle.txn_law.specs.CoreWindow.{IsHomeOf}
-use Rattle.txn_law.specs.Tidy.{AreTidy}
+use Rattle.txn_law.specs.WellFormed.{IsWellFormed}
 use Rattle.txn_law.specs.Window.{after_commits, opening}
 use Rattle.store_promise.specs.Openings.{AtEachStop}
 use Rattle.store_promise.specs.OpenStore.{IsBoot, IsOpenOver}
@@ -56,11 +56,11 @@ pub record HasFileBlocks (base : Image) (core : CoreState) (tree : Tree) : Type 
 -- a core is sound over what is at home: so its type keeps it, and each of its methods leads from home to home
 pub record IsSoundCore (base : Image) (core : CoreState) : Type 0 where
   pub lawful : IsLawful core.log
-  pub tidy : AreTidy core
+  pub well_formed : IsWellFormed core
   pub home : IsHomeOf base core
 
 -- a step has left the log, the commits, the counts and the boot number as they were
-pub record StandsBeside (old new : CoreState) : Type 0 where
+pub record LeavesLogUnchanged (old new : CoreState) : Type 0 where
   pub log : new.log ≡ old.log
   pub inodes : new.inodes ≡ old.inodes
   pub records : new.records ≡ old.records
@@ -104,11 +104,11 @@ pub record LeavesBlocks (base : Image) (core : CoreState) (boot : ℕ) (first : 
       (files.count - installed_place core.log)
 
 -- so it was whenever a call of the device was next, from one device on, but for what is next now
-abbrev pub HasKeptFiles : Device → Device → ℕ → Tree → List Entry → ℕ → Type 0
-HasKeptFiles before d boot first entries settled = (clock : ℕ) (image : Image) → before.clock ≤ clock
+abbrev pub HasPreservedFiles : Device → Device → ℕ → Tree → List Entry → ℕ → Type 0
+HasPreservedFiles before d boot first entries settled = (clock : ℕ) (image : Image) → before.clock ≤ clock
     → clock < d.clock → IsCrashImage d clock image → LeavesBeginning d.size boot first entries settled image
 
 -- and so it is now
-abbrev pub KeepsFiles : Device → Device → ℕ → Tree → List Entry → ℕ → Type 0
-KeepsFiles before d boot first entries settled =
+abbrev pub PreservesFiles : Device → Device → ℕ → Tree → List Entry → ℕ → Type 0
+PreservesFiles before d boot first entries settled =
     AtEachStop before d (λ clock image. LeavesBeginning d.size boot first entries settled image)

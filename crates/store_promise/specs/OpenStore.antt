@@ -14,12 +14,12 @@ use Rattle.layout.specs.declared.version.FormatVersion.TheVariants.{Second}
 use Rattle.layout.specs.Homes.{homes_of}
 use Rattle.layout.specs.Stands.{Stands}
 use Rattle.layout.specs.SuperForm.{IsSuper}
-use Rattle.circ.specs.Log.Calls.{AgreesBeside, Pending, idle}
+use Rattle.circ.specs.Log.Calls.{AgreesWithPending, Pending, idle}
 use Rattle.circ.specs.Log.Log.{IsLawful, Log, installed_place, settled_place}
 use Rattle.txn_law.specs.Core.{CoreState}
 use Rattle.txn_law.specs.CoreWindow.{IsHomeOf}
 use Rattle.txn_law.specs.HomeRead.{IsReadable}
-use Rattle.txn_law.specs.Tidy.{AreTidy}
+use Rattle.txn_law.specs.WellFormed.{IsWellFormed}
 use Rattle.txn_law.specs.Window.{Footprint, opening, with_objects}
 
 -- From blocks that stand for a tree each commit in turn leads to blocks that stand for the tree after its
@@ -53,9 +53,9 @@ pub record HasFilesOver (base : Image) (core : CoreState) (boot : ℕ) (tree : T
 pub record IsOpenOver (base : Image) (d : Device) (core : CoreState) (logging installing : Pending) (boot : ℕ)
     (tree : Tree) (entries : List Entry) (last : Tree) : Type 0 where
   pub lawful : IsLawful core.log
-  pub agrees : AgreesBeside d base core.log logging installing
+  pub agrees : AgreesWithPending d base core.log logging installing
   pub readable : IsReadable d core.log installing
-  pub tidy : AreTidy core
+  pub well_formed : IsWellFormed core
   pub files : HasFilesOver base core boot tree entries last
 
 -- the boot number is this
@@ -70,9 +70,9 @@ IsSettledOf log place = place ≤ settled_place log - installed_place log
 -- or in memory, no commit was made, no transaction begun, and nothing has failed.
 pub record IsNewOver (base : Image) (d : Device) (core : CoreState) : Type 0 where
   pub lawful : IsLawful core.log
-  pub agrees : AgreesBeside d base core.log idle idle
+  pub agrees : AgreesWithPending d base core.log idle idle
   pub readable : IsReadable d core.log idle
-  pub tidy : AreTidy core
+  pub well_formed : IsWellFormed core
   pub home : IsHomeOf base core
   pub changes : core.log.changes ≡ []
   pub records : core.records ≡ []

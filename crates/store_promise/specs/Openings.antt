@@ -12,7 +12,7 @@ use Rattle.layout.specs.declared.fault.LayoutFault.TheVariants as layout_fault
 use Rattle.layout.specs.declared.super_block.Super.{Super}
 use Rattle.layout.specs.SuperForm.{HasMagic, IsNoSuper, IsSuper}
 use Rattle.circ.specs.Log.Overlay.{start_in, end_in, IsInRange, HasHomes}
-use Rattle.circ.specs.Log.Recovery.{HasOnlyRead, IsUnspoiled, image_of}
+use Rattle.circ.specs.Log.Recovery.{HasOnlyRead, IsCertain, image_of}
 use Rattle.store_promise.specs.declared.fault.OpenFault.{OpenFault}
 use Rattle.store_promise.specs.declared.fault.OpenFault.TheVariants as fault
 use Rattle.store_promise.specs.GoodImage.{IsGoodImage}
@@ -49,8 +49,8 @@ pub record HasTree (size first : ℕ) (tree : Tree) (image : Image) : Type 0 whe
   pub good : IsGoodImage size image tree boot
 
 -- the tree stays whenever the store is stopped: so it is while a store is opened
-abbrev pub KeepsTree : Device → Device → Tree → ℕ → Type 0
-KeepsTree before later tree first =
+abbrev pub PreservesTree : Device → Device → Tree → ℕ → Type 0
+PreservesTree before later tree first =
     AtEachStop before later (λ clock image. HasTree later.size first tree image)
 
 -- An opening, from one device to another, of an image with this tree and this boot number: the tree stays at
@@ -61,7 +61,7 @@ pub record IsOpened (before opened : Device) (tree : Tree) (first position : ℕ
   pub begun : before.clock < opened.clock
   pub failures : opened.failures ≡ before.failures
   pub left : LeavesImages before opened
-  pub keeps : KeepsTree before opened tree first
+  pub preserves : PreservesTree before opened tree first
   pub settled : (image : Image) → IsCrashImage opened opened.clock image
       → IsGoodImage opened.size image tree (first + 1)
   pub empty : (image : Image) → IsCrashImage opened opened.clock image → (start_in image ≡ position)
@@ -81,7 +81,7 @@ IsCauseOf fault.Log before later first = ⊥
 pub record IsRefused (before later : Device) (tree : Tree) (first : ℕ) (cause : OpenFault) : Type 0 where
   pub past : IsLater before later
   pub left : LeavesImages before later
-  pub keeps : KeepsTree before later tree first
+  pub preserves : PreservesTree before later tree first
   pub because : IsCauseOf cause before later first
 
 -- the sizes of the super block aren't the device's, or no boot number is left
@@ -118,7 +118,7 @@ abbrev pub IsRefusedFor : Type 0 → OpenFault → Device → Device → Type 0
 IsRefusedFor keeps_model fault.Device before later = IsLater before later × (before.failures < later.failures)
 IsRefusedFor keeps_model fault.NoMemory before later = IsLater before later
 IsRefusedFor keeps_model cause before later = WasOnlyRead before later
-    × (keeps_model → IsUnspoiled before → IsShownBy cause before.size (image_of before))
+    × (keeps_model → IsCertain before → IsShownBy cause before.size (image_of before))
 
 -- an image of so many blocks shows no cause
 abbrev pub ShowsNoCause : ℕ → Image → Type 0
@@ -128,7 +128,7 @@ ShowsNoCause size image = (cause : OpenFault) → IsShownBy cause size image →
 -- call failed, and refused as said above.
 abbrev pub IsAnsweredFor : Type 0 → Option OpenFault → Device → Device → Type 0
 IsAnsweredFor keeps_model None before later = IsLater before later × (later.failures ≡ before.failures)
-    × (keeps_model → IsUnspoiled before → ShowsNoCause before.size (image_of before))
+    × (keeps_model → IsCertain before → ShowsNoCause before.size (image_of before))
 IsAnsweredFor keeps_model (Some cause) before later = IsRefusedFor keeps_model cause before later
 
 -- what a stop may leave while an image is made: an image from before, one that has no super block, or the

@@ -5,24 +5,24 @@ use Rattle.std.specs.Prelude.{◌∷◌, ◌++◌, drop, map, Ok, Option, Some, 
 use Rattle.std.specs.List.{list_any}
 use Rattle.disk.specs.declared.block.BlockNo.{BlockNo}
 use Rattle.inode.specs.Snap.{same_addr}
-use Rattle.objects.specs.Mode.{is_exclusive, raised}
+use Rattle.objects.specs.Mode.{is_exclusive, upgraded}
 use Rattle.objects.specs.declared.addr.Addr.{Addr}
 use Rattle.objects.specs.declared.mode.Mode.{Mode}
 use Rattle.nfs_types.specs.declared.call.Call.{Call}
 use Rattle.nfs_types.specs.declared.ctx.Credential.{Credential}
 use Rattle.nfs_types.specs.declared.ctx.Moment.{Moment}
 use Rattle.nfs_spec.specs.Model.Calls.{is_answered_stable}
-use Rattle.store_promise.specs.Aims.{inserted, is_barred}
-use Rattle.store_promise.specs.declared.aims.Aim.{Aim}
-use Rattle.store_promise.specs.declared.aims.Aim.TheVariants as aim
+use Rattle.store_promise.specs.LockRequests.{inserted, is_barred}
+use Rattle.store_promise.specs.declared.lock_requests.LockRequest.{LockRequest}
+use Rattle.store_promise.specs.declared.lock_requests.LockRequest.TheVariants as lock_request
 use Rattle.store_promise.specs.declared.events.Cause.{Cause}
 use Rattle.store_promise.specs.declared.events.Cause.TheVariants as cause
 use Rattle.store_promise.specs.declared.events.Committing.{Committing}
 use Rattle.store_promise.specs.declared.events.Committing.TheVariants as committing
 use Rattle.store_promise.specs.declared.events.Step.{Step}
 use Rattle.store_promise.specs.declared.events.Step.TheVariants as step
-use Rattle.store_promise.specs.declared.events.Wish.{Wish}
-use Rattle.store_promise.specs.declared.events.Wish.TheVariants as wish
+use Rattle.store_promise.specs.declared.events.LockAnswer.{LockAnswer}
+use Rattle.store_promise.specs.declared.events.LockAnswer.TheVariants as lock_answer
 
 -- what a worker was handed: whom the call is made for, when, and the call
 pub record Job : Type 0 where
@@ -46,13 +46,13 @@ pub record Begun : Type 0 where
   pub number : ℕ
   pub held : List Taken
   pub claimed : List BlockNo
-  pub taken : List Aim
-  pub left : List Aim
+  pub taken : List LockRequest
+  pub left : List LockRequest
 
 -- how far a worker is with a call
 pub data Stage : Type 0 where
   -- it has no transaction; it knows what it has taken, and was kept off from, in those before
-  Called : List Aim → Stage
+  Called : List LockRequest → Stage
   -- it has a transaction, in which it takes again what it knew, and then reads and claims what its plan asks for
   Planning : Begun → Stage
   -- a read of this object's block is due
@@ -63,7 +63,7 @@ pub data Stage : Type 0 where
   Refused : Begun → Cause → Stage
   -- its transaction is to be ended, and then the call begins again: it was kept off from this, which lies below
   -- what it has taken or raises it; or, where there is none, its change was foreign
-  Again : Begun → Option Aim → Stage
+  Again : Begun → Option LockRequest → Stage
   -- its procedure was committed at this place, and isn't answered yet
   Waiting : ℕ → Stage
 
@@ -78,73 +78,73 @@ is_idle (At job stage) = false
 
 -- ---- what is taken
 
-abbrev pub aim_of : Taken → Aim
-aim_of taken = aim.Object taken.addr taken.mode
+abbrev pub lock_request_of : Taken → LockRequest
+lock_request_of taken = lock_request.Object taken.addr taken.mode
 
 -- it has taken this too, which was the next that was left, if any was
-abbrev pub with_taken : Begun → Aim → Begun
+abbrev pub with_taken : Begun → LockRequest → Begun
 with_taken begun one = record begun { taken = inserted one begun.taken; left = drop 1 begun.left }
 
 -- an object that was told, in the mode of another one, where that is the same object
-abbrev pub raised_told : Taken → Taken → Taken
-raised_told one other =
-    if same_addr one.addr other.addr then record other { mode = raised other.mode one.mode } else other
+abbrev pub upgraded_object_read : Taken → Taken → Taken
+upgraded_object_read one other =
+    if same_addr one.addr other.addr then record other { mode = upgraded other.mode one.mode } else other
 
 -- it was told, in whatever mode
-abbrev pub is_told : Addr → List Taken → Bool
-is_told addr held = list_any (λ (other : Taken). same_addr addr other.addr) held
+abbrev pub is_in_read_set : Addr → List Taken → Bool
+is_in_read_set addr held = list_any (λ (other : Taken). same_addr addr other.addr) held
 
 -- the objects that were told, with one more, or with this one of them raised
-abbrev pub with_told : Taken → List Taken → List Taken
-with_told one held = if is_told one.addr held then map (raised_told one) held else held ++ one ∷ []
+abbrev pub read_set_with : Taken → List Taken → List Taken
+read_set_with one held = if is_in_read_set one.addr held then map (upgraded_object_read one) held else held ++ one ∷ []
 
 -- its plan is told an object, or has claimed a block, once nothing is left to be taken again
-abbrev pub told_by : List Aim → Begun → Taken → Begun
-told_by [] begun taken = record begun { held = with_told taken begun.held }
-told_by (next ∷ later) begun taken = begun
+abbrev pub object_read_by : List LockRequest → Begun → Taken → Begun
+object_read_by [] begun taken = record begun { held = read_set_with taken begun.held }
+object_read_by (next ∷ later) begun taken = begun
 
-abbrev pub claimed_by : List Aim → Begun → BlockNo → Begun
+abbrev pub claimed_by : List LockRequest → Begun → BlockNo → Begun
 claimed_by [] begun block = record begun { claimed = begun.claimed ++ block ∷ [] }
 claimed_by (next ∷ later) begun block = begun
 
 abbrev pub with_held : Begun → Taken → Begun
-with_held begun taken = told_by begun.left (with_taken begun (aim_of taken)) taken
+with_held begun taken = object_read_by begun.left (with_taken begun (lock_request_of taken)) taken
 
 abbrev pub with_claimed : Begun → BlockNo → Begun
-with_claimed begun block = claimed_by begun.left (with_taken begun (aim.Claim block)) block
+with_claimed begun block = claimed_by begun.left (with_taken begun (lock_request.Claim block)) block
 
--- Who is kept off waits, and asks again, where it has taken nothing above what it wishes, nor that itself in a lower
+-- Who is kept off waits, and asks again, where it has taken nothing above what it asks for, nor that itself in a lower
 -- mode. Else it gives all back, and takes it again from the lowest on, each object once and in the highest mode that it
 -- was asked for: so no two wait for each other, and no two that raise one object keep each other off again.
-abbrev pub kept_off : Begun → Aim → Stage
-kept_off begun wished = if is_barred wished begun.taken then Again begun (Some wished) else Planning begun
+abbrev pub deferred : Begun → LockRequest → Stage
+deferred begun request = if is_barred request begun.taken then Again begun (Some request) else Planning begun
 
 -- what the call knows then
-abbrev pub with_wished : Option Aim → List Aim → List Aim
-with_wished None aims = aims
-with_wished (Some wished) aims = inserted wished aims
+abbrev pub with_request : Option LockRequest → List LockRequest → List LockRequest
+with_request None lock_requests = lock_requests
+with_request (Some request) lock_requests = inserted request lock_requests
 
-abbrev pub known_then : Begun → Option Aim → List Aim
-known_then begun wished = with_wished wished (begun.taken ++ begun.left)
+abbrev pub known_then : Begun → Option LockRequest → List LockRequest
+known_then begun request = with_request request (begun.taken ++ begun.left)
 
 -- ---- a step
 
 -- what wasn't had yet is asked for again
-abbrev pub after_wanted : Begun → Taken → Wish → Stage
-after_wanted begun taken wish.Held = Planning (with_held begun taken)
-after_wanted begun taken wish.Fetch = Reading (with_taken begun (aim_of taken)) taken
-after_wanted begun taken wish.Busy = kept_off begun (aim_of taken)
-after_wanted begun taken wish.Loading = kept_off begun (aim_of taken)
-after_wanted begun taken wish.Outside = Refused begun cause.Io
-after_wanted begun taken wish.NoMemory = Refused begun cause.NoMemory
+abbrev pub after_wanted : Begun → Taken → LockAnswer → Stage
+after_wanted begun taken lock_answer.Held = Planning (with_held begun taken)
+after_wanted begun taken lock_answer.Fetch = Reading (with_taken begun (lock_request_of taken)) taken
+after_wanted begun taken lock_answer.Busy = deferred begun (lock_request_of taken)
+after_wanted begun taken lock_answer.Loading = deferred begun (lock_request_of taken)
+after_wanted begun taken lock_answer.Outside = Refused begun cause.Io
+after_wanted begun taken lock_answer.NoMemory = Refused begun cause.NoMemory
 
-abbrev pub after_claimed : Begun → BlockNo → Wish → Stage
-after_claimed begun block wish.Held = Planning (with_claimed begun block)
-after_claimed begun block wish.Fetch = Planning begun
-after_claimed begun block wish.Busy = kept_off begun (aim.Claim block)
-after_claimed begun block wish.Loading = kept_off begun (aim.Claim block)
-after_claimed begun block wish.Outside = Refused begun cause.Io
-after_claimed begun block wish.NoMemory = Refused begun cause.NoMemory
+abbrev pub after_claimed : Begun → BlockNo → LockAnswer → Stage
+after_claimed begun block lock_answer.Held = Planning (with_claimed begun block)
+after_claimed begun block lock_answer.Fetch = Planning begun
+after_claimed begun block lock_answer.Busy = deferred begun (lock_request.Claim block)
+after_claimed begun block lock_answer.Loading = deferred begun (lock_request.Claim block)
+after_claimed begun block lock_answer.Outside = Refused begun cause.Io
+after_claimed begun block lock_answer.NoMemory = Refused begun cause.NoMemory
 
 -- None where the call is answered with the step. A commit that found the log full is tried again.
 abbrev pub after_commit : Bool → Begun → Committing → Option Stage
@@ -164,11 +164,11 @@ after_planning stable begun (step.Ended why) = None
 after_planning stable begun _ = Some (Planning begun)
 
 -- a transaction in which nothing is taken yet, of a call that knew this
-abbrev pub fresh : ℕ → List Aim → Begun
+abbrev pub fresh : ℕ → List LockRequest → Begun
 fresh number known = record { number = number; held = []; claimed = []; taken = []; left = known }
 
 -- a call without a transaction is answered, and so is one for which none was begun
-abbrev pub after_called : List Aim → Step → Option Stage
+abbrev pub after_called : List LockRequest → Step → Option Stage
 after_called known (step.Begun (Ok number)) = Some (Planning (fresh number known))
 after_called known _ = None
 
@@ -191,7 +191,7 @@ stage_after broken stable made (Reading begun taken) = after_reading begun taken
 stage_after broken stable made (Read begun taken true) = Some (Planning begun)
 stage_after broken stable made (Read begun taken false) = Some (Refused begun cause.Io)
 stage_after broken stable made (Refused begun why) = None
-stage_after broken stable made (Again begun wished) = Some (Called (known_then begun wished))
+stage_after broken stable made (Again begun request) = Some (Called (known_then begun request))
 stage_after broken stable made (Waiting place) = after_waiting broken place made
 
 abbrev pub going_on : Job → Option Stage → Progress
@@ -204,46 +204,46 @@ progressed broken made Idle = Idle
 progressed broken made (At job stage) =
     going_on job (stage_after broken (is_answered_stable job.call) made stage)
 
--- so many bytes of a block, from an offset on, and the mode in which they are wished
-pub record Wished : Type 0 where
+-- so many bytes of a block, from an offset on, and the mode in which they are asked for
+pub record RangeRequest : Type 0 where
   pub block : BlockNo
   pub offset : ℕ
   pub len : ℕ
   pub mode : Mode
 
--- an object shares a byte with what is wished
-abbrev pub shares : Wished → Addr → Bool
-shares wished addr =
-    nat_eq addr.block.0 wished.block.0 && nat_lt addr.offset (wished.offset + wished.len)
-    && nat_lt wished.offset (addr.offset + addr.len)
+-- an object shares a byte with what is asked for
+abbrev pub shares : RangeRequest → Addr → Bool
+shares request addr =
+    nat_eq addr.block.0 request.block.0 && nat_lt addr.offset (request.offset + request.len)
+    && nat_lt request.offset (addr.offset + addr.len)
 
 -- what is taken keeps it off: they share a byte, and one of the two is exclusive
-abbrev pub keeps_off : Wished → Taken → Bool
-keeps_off wished taken =
-    shares wished taken.addr && (is_exclusive taken.mode || is_exclusive wished.mode)
+abbrev pub conflicts_with : RangeRequest → Taken → Bool
+conflicts_with request taken =
+    shares request taken.addr && (is_exclusive taken.mode || is_exclusive request.mode)
 
 -- so does what a transaction has taken; a claim is of the whole block, and exclusive
-abbrev pub aim_keeps_off : Wished → Aim → Bool
-aim_keeps_off wished (aim.Object addr mode) = keeps_off wished (record { addr = addr; mode = mode })
-aim_keeps_off wished (aim.Claim block) = nat_eq block.0 wished.block.0
+abbrev pub lock_request_conflicts : RangeRequest → LockRequest → Bool
+lock_request_conflicts request (lock_request.Object addr mode) = conflicts_with request (record { addr = addr; mode = mode })
+lock_request_conflicts request (lock_request.Claim block) = nat_eq block.0 request.block.0
 
 -- something that it has taken does
-abbrev pub takes : Wished → Begun → Bool
-takes wished begun = list_any (aim_keeps_off wished) begun.taken
+abbrev pub takes : RangeRequest → Begun → Bool
+takes request begun = list_any (lock_request_conflicts request) begun.taken
 
-abbrev pub stage_takes : Wished → Stage → Bool
-stage_takes wished (Called known) = false
-stage_takes wished (Planning begun) = takes wished begun
-stage_takes wished (Reading begun taken) = takes wished begun
-stage_takes wished (Read begun taken ok) = takes wished begun
-stage_takes wished (Refused begun why) = takes wished begun
-stage_takes wished (Again begun off) = takes wished begun
-stage_takes wished (Waiting place) = false
+abbrev pub stage_takes : RangeRequest → Stage → Bool
+stage_takes request (Called known) = false
+stage_takes request (Planning begun) = takes request begun
+stage_takes request (Reading begun taken) = takes request begun
+stage_takes request (Read begun taken ok) = takes request begun
+stage_takes request (Refused begun why) = takes request begun
+stage_takes request (Again begun off) = takes request begun
+stage_takes request (Waiting place) = false
 
 -- a worker's transaction has
-abbrev pub has_taken : Wished → Progress → Bool
-has_taken wished Idle = false
-has_taken wished (At job stage) = stage_takes wished stage
+abbrev pub has_taken : RangeRequest → Progress → Bool
+has_taken request Idle = false
+has_taken request (At job stage) = stage_takes request stage
 
 -- a worker has a fetch of the block out
 abbrev pub is_fetching : BlockNo → Progress → Bool
@@ -252,9 +252,9 @@ is_fetching block (At job (Read begun taken ok)) = nat_eq taken.addr.block.0 blo
 is_fetching block _ = false
 
 -- an object of the block was told or fetched, so that the block is in memory until the transaction ends
-abbrev pub is_object_in : BlockNo → Aim → Bool
-is_object_in block (aim.Object addr mode) = nat_eq addr.block.0 block.0
-is_object_in block (aim.Claim claimed) = false
+abbrev pub is_object_in : BlockNo → LockRequest → Bool
+is_object_in block (lock_request.Object addr mode) = nat_eq addr.block.0 block.0
+is_object_in block (lock_request.Claim claimed) = false
 
 abbrev pub is_loaded : BlockNo → Begun → Bool
 is_loaded block begun = list_any (is_object_in block) begun.taken
@@ -265,10 +265,10 @@ has_loaded block (At job (Planning begun)) = is_loaded block begun
 has_loaded block _ = false
 
 -- a part of the block, or the whole, is taken alone
-abbrev pub is_part_alone : BlockNo → Aim → Bool
-is_part_alone block (aim.Object addr mode) = nat_eq addr.block.0 block.0 && is_exclusive mode
-is_part_alone block (aim.Claim claimed) = nat_eq claimed.0 block.0
+abbrev pub is_part_exclusive : BlockNo → LockRequest → Bool
+is_part_exclusive block (lock_request.Object addr mode) = nat_eq addr.block.0 block.0 && is_exclusive mode
+is_part_exclusive block (lock_request.Claim claimed) = nat_eq claimed.0 block.0
 
 -- its transaction has so taken one
-abbrev pub has_part_alone : BlockNo → Begun → Bool
-has_part_alone block begun = list_any (is_part_alone block) begun.taken
+abbrev pub has_part_exclusive : BlockNo → Begun → Bool
+has_part_exclusive block begun = list_any (is_part_exclusive block) begun.taken

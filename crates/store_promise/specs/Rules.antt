@@ -8,8 +8,8 @@ use Rattle.objects.specs.declared.addr.Addr.{Addr}
 use Rattle.objects.specs.declared.mode.Mode.{Mode}
 use Rattle.nfs_spec.specs.Model.Calls.{begins_transaction}
 use Rattle.circ.specs.declared.log.outcomes.Seq.{Seq}
-use Rattle.store_promise.specs.declared.aims.Aim.{Aim}
-use Rattle.store_promise.specs.declared.aims.Aim.TheVariants as aim
+use Rattle.store_promise.specs.declared.lock_requests.LockRequest.{LockRequest}
+use Rattle.store_promise.specs.declared.lock_requests.LockRequest.TheVariants as lock_request
 use Rattle.store_promise.specs.declared.events.Cause.{Cause}
 use Rattle.store_promise.specs.declared.events.Committing.{Committing}
 use Rattle.store_promise.specs.declared.events.Ending.TheVariants as ending
@@ -17,62 +17,62 @@ use Rattle.store_promise.specs.declared.events.Event.{Event}
 use Rattle.store_promise.specs.declared.events.Event.TheVariants as event
 use Rattle.store_promise.specs.declared.events.Step.{Step}
 use Rattle.store_promise.specs.declared.events.Step.TheVariants as step
-use Rattle.store_promise.specs.declared.events.Wish.{Wish}
-use Rattle.store_promise.specs.LogTold.{LogTold, settled_told}
+use Rattle.store_promise.specs.declared.events.LockAnswer.{LockAnswer}
+use Rattle.store_promise.specs.LogState.{LogState, state_settled}
 use Rattle.store_promise.specs.Progress.{Again, At, Begun, Called, Idle, Job, Planning, Progress, Reading, Refused}
 use Rattle.store_promise.specs.Progress.{Taken, Waiting, is_idle}
 use Rattle.store_promise.specs.Progress as how
-use Rattle.store_promise.specs.Schedule.{AreChanged, IsAskedFor, IsBeginning, IsClaimAskedFor, IsClaimWish}
+use Rattle.store_promise.specs.Schedule.{AreChanged, IsAskedFor, IsBeginning, IsClaimAskedFor, IsClaimAnswer}
 use Rattle.store_promise.specs.Schedule.{IsCommitting, IsStepOfInstIo, IsStepOfInstaller, IsStepOfLog, IsStepOfLogIo}
-use Rattle.store_promise.specs.Schedule.{IsWish, Setting, Told, wish_of, worker_of}
+use Rattle.store_promise.specs.Schedule.{IsLockAnswer, Setting, RunState, range_request_at, worker_of}
 
 -- What a worker may do when it works, by how far it is with its call. One that has no call, or of which a read is
 -- due, does nothing.
-pub data WorkerStep (o : Setting) (told : Told) (worker : ℕ) (so_far : Progress) (made : Step) : Type 0 where
+pub data WorkerStep (o : Setting) (run_state : RunState) (worker : ℕ) (so_far : Progress) (made : Step) : Type 0 where
   -- A call that needs no transaction is answered; any other begins one, or is told why it can't.
-  Answer : (job : Job) (known : List Aim) → so_far ≡ At job (Called known)
+  Answer : (job : Job) (known : List LockRequest) → so_far ≡ At job (Called known)
       → begins_transaction job.call ≡ false
-      → made ≡ step.Replied → WorkerStep o told worker so_far made
-  Begin : (job : Job) (known : List Aim) → so_far ≡ At job (Called known)
-      → begins_transaction job.call ≡ true → IsBeginning told made
-      → WorkerStep o told worker so_far made
+      → made ≡ step.Replied → WorkerStep o run_state worker so_far made
+  Begin : (job : Job) (known : List LockRequest) → so_far ≡ At job (Called known)
+      → begins_transaction job.call ≡ true → IsBeginning run_state made
+      → WorkerStep o run_state worker so_far made
   -- What its call knew is taken again first, from the lowest on.
-  Retake : (job : Job) (begun : Begun) (addr : Addr) (mode : Mode) (later : List Aim) (answer : Wish)
-      → so_far ≡ At job (Planning begun) → begun.left ≡ aim.Object addr mode ∷ later
-      → IsWish told worker begun (wish_of addr mode) answer
-      → made ≡ step.Wanted addr mode answer → WorkerStep o told worker so_far made
-  Reclaim : (job : Job) (begun : Begun) (block : BlockNo) (later : List Aim) (answer : Wish)
-      → so_far ≡ At job (Planning begun) → begun.left ≡ aim.Claim block ∷ later
-      → IsClaimWish told worker begun block answer
-      → made ≡ step.Claimed block answer → WorkerStep o told worker so_far made
+  Retake : (job : Job) (begun : Begun) (addr : Addr) (mode : Mode) (later : List LockRequest) (answer : LockAnswer)
+      → so_far ≡ At job (Planning begun) → begun.left ≡ lock_request.Object addr mode ∷ later
+      → IsLockAnswer run_state worker begun (range_request_at addr mode) answer
+      → made ≡ step.Wanted addr mode answer → WorkerStep o run_state worker so_far made
+  Reclaim : (job : Job) (begun : Begun) (block : BlockNo) (later : List LockRequest) (answer : LockAnswer)
+      → so_far ≡ At job (Planning begun) → begun.left ≡ lock_request.Claim block ∷ later
+      → IsClaimAnswer run_state worker begun block answer
+      → made ≡ step.Claimed block answer → WorkerStep o run_state worker so_far made
   -- Then it takes and claims what its plan asks for, and commits what that ends in, or finds no memory.
-  Take : (job : Job) (begun : Begun) (addr : Addr) (mode : Mode) (answer : Wish)
+  Take : (job : Job) (begun : Begun) (addr : Addr) (mode : Mode) (answer : LockAnswer)
       → so_far ≡ At job (Planning begun) → begun.left ≡ []
-      → IsAskedFor o begun addr mode → IsWish told worker begun (wish_of addr mode) answer
-      → made ≡ step.Wanted addr mode answer → WorkerStep o told worker so_far made
-  Claim : (job : Job) (begun : Begun) (block : BlockNo) (answer : Wish)
+      → IsAskedFor o begun addr mode → IsLockAnswer run_state worker begun (range_request_at addr mode) answer
+      → made ≡ step.Wanted addr mode answer → WorkerStep o run_state worker so_far made
+  Claim : (job : Job) (begun : Begun) (block : BlockNo) (answer : LockAnswer)
       → so_far ≡ At job (Planning begun) → begun.left ≡ []
-      → IsClaimAskedFor o begun block → IsClaimWish told worker begun block answer
-      → made ≡ step.Claimed block answer → WorkerStep o told worker so_far made
+      → IsClaimAskedFor o begun block → IsClaimAnswer run_state worker begun block answer
+      → made ≡ step.Claimed block answer → WorkerStep o run_state worker so_far made
   Commit : (job : Job) (begun : Begun) (blocks : List BlockNo) (answer : Committing)
       → so_far ≡ At job (Planning begun) → begun.left ≡ []
-      → AreChanged begun blocks → IsCommitting o told.log blocks answer
-      → made ≡ step.Commit blocks answer → WorkerStep o told worker so_far made
+      → AreChanged begun blocks → IsCommitting o run_state.log blocks answer
+      → made ≡ step.Commit blocks answer → WorkerStep o run_state worker so_far made
   Lack : (job : Job) (begun : Begun) → so_far ≡ At job (Planning begun) → begun.left ≡ []
-      → made ≡ step.Ended ending.NoMemory → WorkerStep o told worker so_far made
+      → made ≡ step.Ended ending.NoMemory → WorkerStep o run_state worker so_far made
   -- A block that was read is given back, with what was read or without.
   Fetch : (job : Job) (begun : Begun) (taken : Taken) → so_far ≡ At job (how.Read begun taken true)
-      → made ≡ step.Fetched taken.addr.block → WorkerStep o told worker so_far made
+      → made ≡ step.Fetched taken.addr.block → WorkerStep o run_state worker so_far made
   Fail : (job : Job) (begun : Begun) (taken : Taken) → so_far ≡ At job (how.Read begun taken false)
-      → made ≡ step.FetchFailed taken.addr.block → WorkerStep o told worker so_far made
+      → made ≡ step.FetchFailed taken.addr.block → WorkerStep o run_state worker so_far made
   -- A transaction is ended: its call is refused, or begins again.
   Refuse : (job : Job) (begun : Begun) (why : Cause) → so_far ≡ At job (Refused begun why)
-      → made ≡ step.Ended ending.Refused → WorkerStep o told worker so_far made
-  Leave : (job : Job) (begun : Begun) (wished : Option Aim) → so_far ≡ At job (Again begun wished)
-      → made ≡ step.Ended ending.Again → WorkerStep o told worker so_far made
+      → made ≡ step.Ended ending.Refused → WorkerStep o run_state worker so_far made
+  Leave : (job : Job) (begun : Begun) (request : Option LockRequest) → so_far ≡ At job (Again begun request)
+      → made ≡ step.Ended ending.Again → WorkerStep o run_state worker so_far made
   -- Whether the place is settled that is waited for.
   Await : (job : Job) (place : ℕ) (seq : Seq) → so_far ≡ At job (Waiting place) → seq.0 ≡ place
-      → made ≡ step.Stable seq (nat_le place (settled_told told.log)) → WorkerStep o told worker so_far made
+      → made ≡ step.Stable seq (nat_le place (state_settled run_state.log)) → WorkerStep o run_state worker so_far made
 
 -- ---- a run's
 
@@ -95,7 +95,7 @@ applies (event.Read worker) so_far = may_read so_far
 applies _ so_far = false
 
 -- what the log and the installer may make with an event of theirs
-abbrev pub IsStepOfSides : Setting → LogTold → Event → Option Step → Type 0
+abbrev pub IsStepOfSides : Setting → LogState → Event → Option Step → Type 0
 IsStepOfSides o log event.Log made = IsStepOfLog o log log.log_call made
 IsStepOfSides o log event.LogIo made = IsStepOfLogIo log.log_call made
 IsStepOfSides o log event.Install made = IsStepOfInstaller o log log.inst_call made
@@ -103,21 +103,21 @@ IsStepOfSides o log event.InstIo made = IsStepOfInstIo log.inst_call made
 IsStepOfSides o log _ made = ⊥
 
 -- What an event of a run makes.
-pub data RunStep (o : Setting) (told : Told) (now : Event) (made : Option Step) : Type 0 where
+pub data RunStep (o : Setting) (run_state : RunState) (now : Event) (made : Option Step) : Type 0 where
   -- A worker without a call takes the one that it is handed.
   Receive : (worker : ℕ) (credential : Credential) (moment : Moment) (call : Call)
       → now ≡ event.Call worker credential moment call
-      → told.workers worker ≡ Idle → made ≡ Some step.Called → RunStep o told now made
+      → run_state.workers worker ≡ Idle → made ≡ Some step.Called → RunStep o run_state now made
   -- A worker goes on with its call, by a rule of its own.
   Work : (worker : ℕ) (one : Step) → now ≡ event.Work worker
-      → WorkerStep o told worker (told.workers worker) one
-      → made ≡ Some one → RunStep o told now made
+      → WorkerStep o run_state worker (run_state.workers worker) one
+      → made ≡ Some one → RunStep o run_state now made
   -- The read that is due of a worker is made, well or not.
   Read : (worker : ℕ) (job : Job) (begun : Begun) (taken : Taken) (ok : Bool) → now ≡ event.Read worker
-      → told.workers worker ≡ At job (Reading begun taken)
-      → made ≡ Some (step.Read taken.addr.block ok) → RunStep o told now made
+      → run_state.workers worker ≡ At job (Reading begun taken)
+      → made ≡ Some (step.Read taken.addr.block ok) → RunStep o run_state now made
   -- An event of a worker that doesn't apply to it makes no step.
-  Rest : (worker : ℕ) → worker_of now ≡ Some worker → applies now (told.workers worker) ≡ false
-      → made ≡ None → RunStep o told now made
+  Rest : (worker : ℕ) → worker_of now ≡ Some worker → applies now (run_state.workers worker) ≡ false
+      → made ≡ None → RunStep o run_state now made
   -- The events of the log and of the installer make steps of theirs, or none where they don't apply.
-  Sides : IsStepOfSides o told.log now made → RunStep o told now made
+  Sides : IsStepOfSides o run_state.log now made → RunStep o run_state now made

@@ -11,31 +11,31 @@ use Rattle.layout.specs.declared.version.FormatVersion.TheVariants.{Second}
 use Rattle.circ.specs.Log.Calls.{Pending, home_after, idle}
 use Rattle.circ.specs.Log.Log.{Log, installed_place}
 use Rattle.txn_law.specs.Core.{CoreState}
-use Rattle.txn_law.specs.CoreWindow.{IsPending, KeepsReads}
+use Rattle.txn_law.specs.CoreWindow.{IsPending, PreservesReads}
 use Rattle.txn_law.specs.Fetch.{Fetch}
 use Rattle.txn_law.specs.Leaves.{in_memory, is_fetching, taken_by}
 use Rattle.store_promise.specs.declared.events.Step.{Step}
 use Rattle.store_promise.specs.declared.events.Step.TheVariants as step
 use Rattle.store_promise.specs.FailedCalls.{one_if, TellEachFailure, TellsFailure}
-use Rattle.store_promise.specs.LogTold.{LogTold, log_moved}
+use Rattle.store_promise.specs.LogState.{LogState, log_moved}
 use Rattle.store_promise.specs.Openings.{IsLater}
 use Rattle.store_promise.specs.OpenSince.{IsOpenSince, blocks_after}
-use Rattle.store_promise.specs.Schedule.{Setting, Told}
-use Rattle.store_promise.specs.ToldOf.{StandsAtHome, log_told}
+use Rattle.store_promise.specs.Schedule.{Setting, RunState}
+use Rattle.store_promise.specs.LogStateOf.{StandsAtHome, log_state_of}
 use Rattle.store_promise.specs.Transcript.{calls_device, fails}
 
 -- the device and the core, with the calls that the log and the installer have out
-pub record StoreSide : Type 0 where
+pub record StoreState : Type 0 where
   pub device : Device
   pub core : CoreState
   pub logging : Pending
   pub installing : Pending
 
-abbrev pub side : Device → CoreState → Pending → Pending → StoreSide
+abbrev pub side : Device → CoreState → Pending → Pending → StoreState
 side d core logging installing = record { device = d; core = core; logging = logging; installing = installing }
 
 -- no call is out
-abbrev pub at_rest : Device → CoreState → StoreSide
+abbrev pub at_rest : Device → CoreState → StoreState
 at_rest d core = record { device = d; core = core; logging = idle; installing = idle }
 
 -- what was read of a block whose fetch is pending is what is at home
@@ -46,7 +46,7 @@ IsFetchOver base core fetch = IsPending core fetch.block → fetch.content ≡ b
 -- gone on from where the opening left it, and its installer stands at a home; each fetch that was made well,
 -- and isn't given back yet, has brought what is at home; and the blocks of each place, from those that are
 -- home on, are those after its commit, and beyond the last commit those after it.
-pub record IsRunningOver (o : Setting) (base : Image) (side : StoreSide) (fetches : List Fetch) (boot : ℕ)
+pub record IsRunningOver (o : Setting) (base : Image) (side : StoreState) (fetches : List Fetch) (boot : ℕ)
     (first : Tree) (entries : List Entry) (last : Tree) : Type 0 where
   pub since : IsOpenSince base side.device side.core side.logging side.installing boot first entries last
   pub position : o.position ≤ side.core.log.start + length side.core.log.changes
@@ -59,7 +59,7 @@ pub record IsRunningOver (o : Setting) (base : Image) (side : StoreSide) (fetche
       side.core count
 
 -- the blocks after each commit are what they were, where some more commits may have come home
-pub record KeepsPlaces (base : Image) (old : CoreState) (home : Image) (new : CoreState) : Type 0 where
+pub record PreservesPlaces (base : Image) (old : CoreState) (home : Image) (new : CoreState) : Type 0 where
   pub further : installed_place old.log ≤ installed_place new.log
   pub blocks : (count : ℕ) → blocks_after home new count
       ≡ blocks_after base old (installed_place new.log - installed_place old.log + count)
@@ -77,39 +77,39 @@ pub record IsMovedBy (old : Device) (made : Option Step) (new : Device) : Type 0
   pub past : IsLater old new
   pub calls : new.clock ≡ old.clock + one_if (calls_device made)
   pub failures : new.failures ≡ old.failures + one_if (fails made)
-  pub told : TellsFailure new.failed old.clock made
+  pub failures_match : TellsFailure new.failed old.clock made
 
 -- the device after steps
 pub record IsMovedAlong (old : Device) (steps : List (Option Step)) (new : Device) : Type 0 where
   pub past : IsLater old new
   pub calls : new.clock ≡ old.clock + count_by calls_device steps
   pub failures : new.failures ≡ old.failures + count_by fails steps
-  pub told : TellEachFailure new.failed old.clock steps
+  pub failures_match : TellEachFailure new.failed old.clock steps
 
 -- what transactions have taken, read and are fetching is what it was, and what they have taken stays in memory
-pub record KeepsTransactions (old new : CoreState) : Type 0 where
+pub record PreservesTransactions (old new : CoreState) : Type 0 where
   pub inodes : new.inodes ≡ old.inodes
   pub begun : new.begun ≡ old.begun
   pub out : new.out ≡ old.out
   pub taken : (tx : ℕ) (addr : Addr) → taken_by new tx addr ≡ taken_by old tx addr
   pub fetches : (block : BlockNo) → is_fetching new block ≡ is_fetching old block
-  pub reads : (tx : ℕ) → KeepsReads old new tx
+  pub reads : (tx : ℕ) → PreservesReads old new tx
   pub loaded : (tx : ℕ) (addr : Addr) (content : Content) → is_some (taken_by old tx addr) ≡ true
       → in_memory old addr.block ≡ Some content → in_memory new addr.block ≡ Some content
 
 -- what is told of a log, where an opening left it at a position
-abbrev pub told_of : ℕ → StoreSide → LogTold
-told_of position side = log_told position side.core.log side.logging side.installing
+abbrev pub store_log_state : ℕ → StoreState → LogState
+store_log_state position side = log_state_of position side.core.log side.logging side.installing
 
 -- What is told of the log, and of the count of transactions, is what the store has.
-pub record IsTold (o : Setting) (told : Told) (side : StoreSide) : Type 0 where
-  pub log : told.log ≡ told_of o.position side
-  pub begun : told.begun ≡ side.core.begun
+pub record IsRunState (o : Setting) (run_state : RunState) (side : StoreState) : Type 0 where
+  pub log : run_state.log ≡ store_log_state o.position side
+  pub begun : run_state.begun ≡ side.core.begun
 
 -- what is told after a step, or after none
-abbrev pub told_next : LogTold → Option Step → LogTold
-told_next log None = log
-told_next log (Some made) = log_moved log made
+abbrev pub next_log_state : LogState → Option Step → LogState
+next_log_state log None = log
+next_log_state log (Some made) = log_moved log made
 
 -- what is at home after it
 abbrev pub home_next : Image → Log → Option Step → Image
@@ -118,18 +118,18 @@ home_next base log _ = base
 
 -- A step of the log or of the installer is one that may be made, leads from what is told to what is told
 -- next, and the run goes on with the entries that there were.
-pub record GoesOnBy (MayMake : Setting → LogTold → Option Step → Type 0) (o : Setting) (base : Image)
-    (old : StoreSide) (made : Option Step) (new : StoreSide) (fetches : List Fetch) (boot : ℕ) (first : Tree)
+pub record GoesOnBy (MayMake : Setting → LogState → Option Step → Type 0) (o : Setting) (base : Image)
+    (old : StoreState) (made : Option Step) (new : StoreState) (fetches : List Fetch) (boot : ℕ) (first : Tree)
     (entries : List Entry) (last : Tree) : Type 0 where
-  pub may : MayMake o (told_of o.position old) made
-  pub told : told_of o.position new ≡ told_next (told_of o.position old) made
+  pub may : MayMake o (store_log_state o.position old) made
+  pub log_follows : store_log_state o.position new ≡ next_log_state (store_log_state o.position old) made
   pub running : IsRunningOver o (home_next base old.core.log made) new fetches boot first entries last
 
 -- so it does whatever is at home, and what transactions have stays
-pub record IsLogStep (MayMake : Setting → LogTold → Option Step → Type 0) (old : StoreSide) (made : Option Step)
-    (new : StoreSide) : Type 0 where
+pub record IsLogStep (MayMake : Setting → LogState → Option Step → Type 0) (old : StoreState) (made : Option Step)
+    (new : StoreState) : Type 0 where
   pub device : IsMovedBy old.device made new.device
-  pub core : KeepsTransactions old.core new.core
+  pub core : PreservesTransactions old.core new.core
   pub runs : (o : Setting) (base : Image) (fetches : List Fetch) (boot : ℕ) (first last : Tree)
       (entries : List Entry) → IsRunningOver o base old fetches boot first entries last
       → GoesOnBy MayMake o base old made new fetches boot first entries last

@@ -18,8 +18,8 @@ use Rattle.txn.specs.declared.outcomes.BeginFault.TheVariants as fault
 use Rattle.circ.specs.Log.Log.{AreOnce}
 use Rattle.circ.specs.declared.log.calls.IoCall.{IoCall}
 use Rattle.procs.specs.SoundCalls.{SoundCall}
-use Rattle.store_promise.specs.declared.aims.Aim.{Aim}
-use Rattle.store_promise.specs.declared.aims.Aim.TheVariants as aim
+use Rattle.store_promise.specs.declared.lock_requests.LockRequest.{LockRequest}
+use Rattle.store_promise.specs.declared.lock_requests.LockRequest.TheVariants as lock_request
 use Rattle.store_promise.specs.declared.events.Committing.{Committing}
 use Rattle.store_promise.specs.declared.events.Committing.TheVariants as committing
 use Rattle.store_promise.specs.declared.events.Ending.TheVariants as ending
@@ -27,14 +27,14 @@ use Rattle.store_promise.specs.declared.events.Event.{Event}
 use Rattle.store_promise.specs.declared.events.Event.TheVariants as event
 use Rattle.store_promise.specs.declared.events.Step.{Step}
 use Rattle.store_promise.specs.declared.events.Step.TheVariants as step
-use Rattle.store_promise.specs.declared.events.Wish.{Wish}
-use Rattle.store_promise.specs.declared.events.Wish.TheVariants as wish
-use Rattle.store_promise.specs.LogTold.{CallTold, idle, out, was_made, LogTold, empty_log, log_moved}
-use Rattle.store_promise.specs.LogTold.{added_told, may_log_told, may_install_told, settled_told, tail_told_after}
+use Rattle.store_promise.specs.declared.events.LockAnswer.{LockAnswer}
+use Rattle.store_promise.specs.declared.events.LockAnswer.TheVariants as lock_answer
+use Rattle.store_promise.specs.LogState.{CallState, idle, out, was_made, LogState, empty_log, log_moved}
+use Rattle.store_promise.specs.LogState.{state_added, state_may_log, state_may_install, state_settled, state_tail_after}
 use Rattle.store_promise.specs.NextCall.{IsNextOfInstalling, next_log_call}
 use Rattle.store_promise.specs.Progress.{Begun, Progress, Idle, At, Stage, Called, Planning, Reading, Read}
 use Rattle.store_promise.specs.Progress.{Refused, Again, Waiting, progressed, has_taken, is_fetching}
-use Rattle.store_promise.specs.Progress.{Taken, Wished, has_loaded, has_part_alone, is_loaded}
+use Rattle.store_promise.specs.Progress.{Taken, RangeRequest, has_loaded, has_part_exclusive, is_loaded}
 
 -- a schedule is any list of events
 abbrev pub Schedule : Type 0
@@ -54,13 +54,13 @@ abbrev pub SoundEvents : Schedule → Type 0
 SoundEvents events = (index : ℕ) (event : Event) → slice_get events index ≡ Some event → SoundEvent event
 
 -- what is told of the workers, of the count of transactions, and of the log
-pub record Told : Type 0 where
+pub record RunState : Type 0 where
   pub workers : ℕ → Progress
   pub begun : ℕ
-  pub log : LogTold
+  pub log : LogState
 
 -- before the first event
-abbrev pub at_first : Told
+abbrev pub at_first : RunState
 at_first = record { workers = λ worker. Idle; begun = 0; log = empty_log }
 
 -- the workers, of whom this one is so far
@@ -68,35 +68,35 @@ abbrev pub with_worker : (ℕ → Progress) → ℕ → Progress → ℕ → Pro
 with_worker workers number progress = λ other. if nat_eq other number then progress else workers other
 
 -- how far the workers are after an event that made a step: that of its own has gone on
-abbrev pub workers_after : Told → Event → Step → ℕ → Progress
-workers_after told (event.Call worker credential moment call) made =
-    with_worker told.workers worker
+abbrev pub workers_after : RunState → Event → Step → ℕ → Progress
+workers_after run_state (event.Call worker credential moment call) made =
+    with_worker run_state.workers worker
     (At (record { credential = credential; moment = moment; call = call }) (Called []))
-workers_after told (event.Work worker) made =
-    with_worker told.workers worker (progressed told.log.broken made (told.workers worker))
-workers_after told (event.Read worker) made =
-    with_worker told.workers worker (progressed told.log.broken made (told.workers worker))
-workers_after told event.Log made = told.workers
-workers_after told event.LogIo made = told.workers
-workers_after told event.Install made = told.workers
-workers_after told event.InstIo made = told.workers
+workers_after run_state (event.Work worker) made =
+    with_worker run_state.workers worker (progressed run_state.log.broken made (run_state.workers worker))
+workers_after run_state (event.Read worker) made =
+    with_worker run_state.workers worker (progressed run_state.log.broken made (run_state.workers worker))
+workers_after run_state event.Log made = run_state.workers
+workers_after run_state event.LogIo made = run_state.workers
+workers_after run_state event.Install made = run_state.workers
+workers_after run_state event.InstIo made = run_state.workers
 
 abbrev pub begun_after : ℕ → Step → ℕ
 begun_after begun (step.Begun (Ok number)) = begun + 1
 begun_after begun _ = begun
 
 -- what is told after an event, which made a step or none
-abbrev pub told_after : Told → Event → Option Step → Told
-told_after told event None = told
-told_after told event (Some made) = record {
-  workers = workers_after told event made;
-  begun = begun_after told.begun made;
-  log = log_moved told.log made;
+abbrev pub state_after : RunState → Event → Option Step → RunState
+state_after run_state event None = run_state
+state_after run_state event (Some made) = record {
+  workers = workers_after run_state event made;
+  begun = begun_after run_state.begun made;
+  log = log_moved run_state.log made;
 }
 
-abbrev pub told_along : Told → List (Event × Option Step) → Told
-told_along told [] = told
-told_along told (first ∷ others) = told_along (told_after told first.0 first.1) others
+abbrev pub state_along : RunState → List (Event × Option Step) → RunState
+state_along run_state [] = run_state
+state_along run_state (first ∷ others) = state_along (state_after run_state first.0 first.1) others
 
 -- ---- what a worker may do
 
@@ -107,17 +107,17 @@ IsStepOfCall (At job stage) made = made ≡ None
 
 -- a transaction takes the next number; a broken store begins none, nor does one whose numbers are spent, and
 -- memory is asked for last
-abbrev pub IsBeginning : Told → Step → Type 0
-IsBeginning told (step.Begun (Ok number)) = (told.log.broken ≡ false) × (number ≡ told.begun + 1)
-IsBeginning told (step.Begun (Err fault.Broken)) = told.log.broken ≡ true
-IsBeginning told (step.Begun (Err fault.Spent)) = (told.log.broken ≡ false) × (2 ^ 64 ≤ told.begun + 1)
-IsBeginning told (step.Begun (Err fault.NoMemory)) = (told.log.broken ≡ false) × (told.begun + 1 < 2 ^ 64)
-IsBeginning told _ = ⊥
+abbrev pub IsBeginning : RunState → Step → Type 0
+IsBeginning run_state (step.Begun (Ok number)) = (run_state.log.broken ≡ false) × (number ≡ run_state.begun + 1)
+IsBeginning run_state (step.Begun (Err fault.Broken)) = run_state.log.broken ≡ true
+IsBeginning run_state (step.Begun (Err fault.Spent)) = (run_state.log.broken ≡ false) × (2 ^ 64 ≤ run_state.begun + 1)
+IsBeginning run_state (step.Begun (Err fault.NoMemory)) = (run_state.log.broken ≡ false) × (run_state.begun + 1 < 2 ^ 64)
+IsBeginning run_state _ = ⊥
 
 -- a call begins a transaction, and NULL is answered
-abbrev pub IsStepOfCalled : Told → Bool → Step → Type 0
-IsStepOfCalled told true made = IsBeginning told made
-IsStepOfCalled told false made = made ≡ step.Replied
+abbrev pub IsStepOfCalled : RunState → Bool → Step → Type 0
+IsStepOfCalled run_state true made = IsBeginning run_state made
+IsStepOfCalled run_state false made = made ≡ step.Replied
 
 -- What the steps of a run go by beside the steps themselves: where the parts of its image lie, the log position
 -- at which the opening left the log, and the blocks that stand for the files after so many procedures.
@@ -141,64 +141,64 @@ pub record IsClaimAskedFor (o : Setting) (begun : Begun) (block : BlockNo) : Typ
   pub claims : Claims o.geometry block
 
 -- another worker is so
-pub record IsSoOfAnother (told : Told) (worker : ℕ) (is : Progress → Bool) : Type 0 where
+pub record IsSoOfAnother (run_state : RunState) (worker : ℕ) (is : Progress → Bool) : Type 0 where
   pub other : ℕ
   pub differs : other ≢ worker
-  pub so : is (told.workers other) ≡ true
+  pub so : is (run_state.workers other) ≡ true
 
 -- no other worker is so
-abbrev pub IsSoOfNoOther : Told → ℕ → (Progress → Bool) → Type 0
-IsSoOfNoOther told worker is = (other : ℕ) → other ≢ worker → is (told.workers other) ≡ false
+abbrev pub IsSoOfNoOther : RunState → ℕ → (Progress → Bool) → Type 0
+IsSoOfNoOther run_state worker is = (other : ℕ) → other ≢ worker → is (run_state.workers other) ≡ false
 
--- nothing that another worker has taken keeps the wish off, and no other fetches the block
-pub record IsLeftFree (told : Told) (worker : ℕ) (wished : Wished) : Type 0 where
-  pub free : IsSoOfNoOther told worker (has_taken wished)
-  pub settled : IsSoOfNoOther told worker (is_fetching wished.block)
+-- nothing that another worker has taken keeps the request off, and no other fetches the block
+pub record IsLeftFree (run_state : RunState) (worker : ℕ) (request : RangeRequest) : Type 0 where
+  pub free : IsSoOfNoOther run_state worker (has_taken request)
+  pub settled : IsSoOfNoOther run_state worker (is_fetching request.block)
 
--- What a wish to read some bytes of a block may be answered: Busy only where what another worker has taken
+-- What a lock request to read some bytes of a block may be answered: Busy only where what another worker has taken
 -- keeps it off, Loading only where another fetches the block, and else only where no other does either. Fetch
 -- comes only where no object of the block was had, by this transaction or by another that goes by its plan, and
 -- Outside never, as no call asks for what lies elsewhere.
-abbrev pub IsWish : Told → ℕ → Begun → Wished → Wish → Type 0
-IsWish told worker begun wished wish.Held = IsLeftFree told worker wished
-IsWish told worker begun wished wish.Busy = IsSoOfAnother told worker (has_taken wished)
-IsWish told worker begun wished wish.Fetch =
-    IsLeftFree told worker wished × (is_loaded wished.block begun ≡ false)
-    × IsSoOfNoOther told worker (has_loaded wished.block)
-IsWish told worker begun wished wish.Loading = IsSoOfAnother told worker (is_fetching wished.block)
-IsWish told worker begun wished wish.Outside = ⊥
-IsWish told worker begun wished wish.NoMemory = IsLeftFree told worker wished
+abbrev pub IsLockAnswer : RunState → ℕ → Begun → RangeRequest → LockAnswer → Type 0
+IsLockAnswer run_state worker begun request lock_answer.Held = IsLeftFree run_state worker request
+IsLockAnswer run_state worker begun request lock_answer.Busy = IsSoOfAnother run_state worker (has_taken request)
+IsLockAnswer run_state worker begun request lock_answer.Fetch =
+    IsLeftFree run_state worker request × (is_loaded request.block begun ≡ false)
+    × IsSoOfNoOther run_state worker (has_loaded request.block)
+IsLockAnswer run_state worker begun request lock_answer.Loading = IsSoOfAnother run_state worker (is_fetching request.block)
+IsLockAnswer run_state worker begun request lock_answer.Outside = ⊥
+IsLockAnswer run_state worker begun request lock_answer.NoMemory = IsLeftFree run_state worker request
 
--- what is wished with an object, and with a whole block
-abbrev pub wish_of : Addr → Mode → Wished
-wish_of addr mode = record { block = addr.block; offset = addr.offset; len = addr.len; mode = mode }
+-- what is asked for with an object, and with a whole block
+abbrev pub range_request_at : Addr → Mode → RangeRequest
+range_request_at addr mode = record { block = addr.block; offset = addr.offset; len = addr.len; mode = mode }
 
-abbrev pub whole_wish : BlockNo → Wished
-whole_wish block = record { block = block; offset = 0; len = BLOCK_BYTES; mode = modes.Exclusive }
+abbrev pub whole_block_request : BlockNo → RangeRequest
+whole_block_request block = record { block = block; offset = 0; len = BLOCK_BYTES; mode = modes.Exclusive }
 
--- what a wish to claim a block may be answered: the same, but that nothing is fetched
-abbrev pub IsClaimWish : Told → ℕ → Begun → BlockNo → Wish → Type 0
-IsClaimWish told worker begun block wish.Fetch = ⊥
-IsClaimWish told worker begun block other = IsWish told worker begun (whole_wish block) other
+-- what a lock request to claim a block may be answered: the same, but that nothing is fetched
+abbrev pub IsClaimAnswer : RunState → ℕ → Begun → BlockNo → LockAnswer → Type 0
+IsClaimAnswer run_state worker begun block lock_answer.Fetch = ⊥
+IsClaimAnswer run_state worker begun block other = IsLockAnswer run_state worker begun (whole_block_request block) other
 
 -- a place is left, and enough log positions for what the tail lacks of these blocks
-pub record HasNumbers (o : Setting) (log : LogTold) (blocks : List BlockNo) : Type 0 where
+pub record HasNumbers (o : Setting) (log : LogState) (blocks : List BlockNo) : Type 0 where
   pub place : log.places + 1 < 2 ^ 64
-  pub positions : o.position + log.appended + added_told log blocks < 2 ^ 64
+  pub positions : o.position + log.appended + state_added log blocks < 2 ^ 64
 
 -- What a commit may be answered that changes these blocks: the next place; or why it is refused. What was read
 -- stays as it was while it is held, so that no change is foreign.
-abbrev pub IsCommitting : Setting → LogTold → List BlockNo → Committing → Type 0
+abbrev pub IsCommitting : Setting → LogState → List BlockNo → Committing → Type 0
 IsCommitting o log blocks (committing.Committed place) =
     (log.broken ≡ false) × (place.0 ≡ log.places + 1) × HasNumbers o log blocks
-    × (tail_told_after log blocks ≤ LOG_SLOTS)
+    × (state_tail_after log blocks ≤ LOG_SLOTS)
 IsCommitting o log blocks committing.Broken = log.broken ≡ true
 IsCommitting o log blocks committing.Foreign = ⊥
 IsCommitting o log blocks committing.Spent = (log.broken ≡ false) × (HasNumbers o log blocks → ⊥)
 IsCommitting o log blocks committing.Full =
-    (log.broken ≡ false) × HasNumbers o log blocks × (LOG_SLOTS < tail_told_after log blocks)
+    (log.broken ≡ false) × HasNumbers o log blocks × (LOG_SLOTS < state_tail_after log blocks)
 IsCommitting o log blocks committing.NoMemory =
-    (log.broken ≡ false) × HasNumbers o log blocks × (tail_told_after log blocks ≤ LOG_SLOTS)
+    (log.broken ≡ false) × HasNumbers o log blocks × (state_tail_after log blocks ≤ LOG_SLOTS)
 
 -- The blocks that a commit of the transaction may name: each once, no more than a transaction may change, and each one
 -- of which it has taken a part alone. What it changes lies in them, as Changes says; that it changes each of them is told
@@ -206,58 +206,58 @@ IsCommitting o log blocks committing.NoMemory =
 pub record AreChanged (begun : Begun) (blocks : List BlockNo) : Type 0 where
   pub once : AreOnce blocks
   pub few : length blocks ≤ CHANGED_BLOCKS
-  pub taken : All (λ (block : BlockNo). has_part_alone block begun ≡ true) blocks
+  pub taken : All (λ (block : BlockNo). has_part_exclusive block begun ≡ true) blocks
 
 -- A worker goes by a plan: it asks for what plans may ask for, or commits a change of no more
 -- blocks than a transaction may change, or finds no memory.
-abbrev pub IsStepByPlan : Setting → Told → ℕ → Begun → Step → Type 0
-IsStepByPlan o told worker begun (step.Wanted addr mode answer) =
-    IsAskedFor o begun addr mode × IsWish told worker begun (wish_of addr mode) answer
-IsStepByPlan o told worker begun (step.Claimed block answer) =
-    IsClaimAskedFor o begun block × IsClaimWish told worker begun block answer
-IsStepByPlan o told worker begun (step.Commit blocks answer) =
-    AreChanged begun blocks × IsCommitting o told.log blocks answer
-IsStepByPlan o told worker begun (step.Ended ending.NoMemory) = Unit {0}
-IsStepByPlan o told worker begun _ = ⊥
+abbrev pub IsStepByPlan : Setting → RunState → ℕ → Begun → Step → Type 0
+IsStepByPlan o run_state worker begun (step.Wanted addr mode answer) =
+    IsAskedFor o begun addr mode × IsLockAnswer run_state worker begun (range_request_at addr mode) answer
+IsStepByPlan o run_state worker begun (step.Claimed block answer) =
+    IsClaimAskedFor o begun block × IsClaimAnswer run_state worker begun block answer
+IsStepByPlan o run_state worker begun (step.Commit blocks answer) =
+    AreChanged begun blocks × IsCommitting o run_state.log blocks answer
+IsStepByPlan o run_state worker begun (step.Ended ending.NoMemory) = Unit {0}
+IsStepByPlan o run_state worker begun _ = ⊥
 
--- what its call knew is taken again first, in its order, and answered as any wish is
-abbrev pub IsRetaking : Told → ℕ → Begun → Aim → Step → Type 0
-IsRetaking told worker begun next (step.Wanted addr mode answer) =
-    (next ≡ aim.Object addr mode) × IsWish told worker begun (wish_of addr mode) answer
-IsRetaking told worker begun next (step.Claimed block answer) =
-    (next ≡ aim.Claim block) × IsClaimWish told worker begun block answer
-IsRetaking told worker begun next _ = ⊥
+-- what its call knew is taken again first, in its order, and answered as any lock request is
+abbrev pub IsRetaking : RunState → ℕ → Begun → LockRequest → Step → Type 0
+IsRetaking run_state worker begun next (step.Wanted addr mode answer) =
+    (next ≡ lock_request.Object addr mode) × IsLockAnswer run_state worker begun (range_request_at addr mode) answer
+IsRetaking run_state worker begun next (step.Claimed block answer) =
+    (next ≡ lock_request.Claim block) × IsClaimAnswer run_state worker begun block answer
+IsRetaking run_state worker begun next _ = ⊥
 
-abbrev pub IsStepBeside : List Aim → Setting → Told → ℕ → Begun → Step → Type 0
-IsStepBeside [] o told worker begun made = IsStepByPlan o told worker begun made
-IsStepBeside (next ∷ later) o told worker begun made = IsRetaking told worker begun next made
+abbrev pub IsStepRetakingFirst : List LockRequest → Setting → RunState → ℕ → Begun → Step → Type 0
+IsStepRetakingFirst [] o run_state worker begun made = IsStepByPlan o run_state worker begun made
+IsStepRetakingFirst (next ∷ later) o run_state worker begun made = IsRetaking run_state worker begun next made
 
 -- a step of a worker with a transaction
-abbrev pub IsStepWithin : Setting → Told → ℕ → Begun → Step → Type 0
-IsStepWithin o told worker begun made = IsStepBeside begun.left o told worker begun made
+abbrev pub IsStepWithin : Setting → RunState → ℕ → Begun → Step → Type 0
+IsStepWithin o run_state worker begun made = IsStepRetakingFirst begun.left o run_state worker begun made
 
 -- the place is found settled where it is
-abbrev pub IsStepOfWaiting : LogTold → ℕ → Step → Type 0
+abbrev pub IsStepOfWaiting : LogState → ℕ → Step → Type 0
 IsStepOfWaiting log place (step.Stable seq settled) = (seq.0 ≡ place)
-    × (settled ≡ nat_le place (settled_told log))
+    × (settled ≡ nat_le place (state_settled log))
 IsStepOfWaiting log place _ = ⊥
 
 -- a worker with a call, of which no read is due, goes on with it
-abbrev pub IsStepWith : Setting → Told → ℕ → Call → Stage → Step → Type 0
-IsStepWith o told worker call (Called known) made = IsStepOfCalled told (begins_transaction call) made
-IsStepWith o told worker call (Planning begun) made = IsStepWithin o told worker begun made
-IsStepWith o told worker call (Reading begun taken) made = ⊥
-IsStepWith o told worker call (Read begun taken true) made = made ≡ step.Fetched taken.addr.block
-IsStepWith o told worker call (Read begun taken false) made = made ≡ step.FetchFailed taken.addr.block
-IsStepWith o told worker call (Refused begun why) made = made ≡ step.Ended ending.Refused
-IsStepWith o told worker call (Again begun wished) made = made ≡ step.Ended ending.Again
-IsStepWith o told worker call (Waiting place) made = IsStepOfWaiting told.log place made
+abbrev pub IsStepWith : Setting → RunState → ℕ → Call → Stage → Step → Type 0
+IsStepWith o run_state worker call (Called known) made = IsStepOfCalled run_state (begins_transaction call) made
+IsStepWith o run_state worker call (Planning begun) made = IsStepWithin o run_state worker begun made
+IsStepWith o run_state worker call (Reading begun taken) made = ⊥
+IsStepWith o run_state worker call (Read begun taken true) made = made ≡ step.Fetched taken.addr.block
+IsStepWith o run_state worker call (Read begun taken false) made = made ≡ step.FetchFailed taken.addr.block
+IsStepWith o run_state worker call (Refused begun why) made = made ≡ step.Ended ending.Refused
+IsStepWith o run_state worker call (Again begun request) made = made ≡ step.Ended ending.Again
+IsStepWith o run_state worker call (Waiting place) made = IsStepOfWaiting run_state.log place made
 
-abbrev pub IsStepOfWork : Setting → Told → ℕ → Progress → Option Step → Type 0
-IsStepOfWork o told worker Idle made = made ≡ None
-IsStepOfWork o told worker (At job (Reading begun taken)) made = made ≡ None
-IsStepOfWork o told worker (At job stage) (Some made) = IsStepWith o told worker job.call stage made
-IsStepOfWork o told worker (At job stage) None = ⊥
+abbrev pub IsStepOfWork : Setting → RunState → ℕ → Progress → Option Step → Type 0
+IsStepOfWork o run_state worker Idle made = made ≡ None
+IsStepOfWork o run_state worker (At job (Reading begun taken)) made = made ≡ None
+IsStepOfWork o run_state worker (At job stage) (Some made) = IsStepWith o run_state worker job.call stage made
+IsStepOfWork o run_state worker (At job stage) None = ⊥
 
 -- a read that is due is made
 abbrev pub IsReadOf : BlockNo → Option Step → Type 0
@@ -281,49 +281,49 @@ IsNextOfInstaller true IsNext (Some (step.InstNext call)) = IsNext call
 IsNextOfInstaller true IsNext _ = ⊥
 IsNextOfInstaller false IsNext made = made ≡ None
 
-abbrev pub IsStepOfLog : Setting → LogTold → CallTold → Option Step → Type 0
-IsStepOfLog o log idle made = IsNextOfLog (may_log_told log) (next_log_call o.position log) made
+abbrev pub IsStepOfLog : Setting → LogState → CallState → Option Step → Type 0
+IsStepOfLog o log idle made = IsNextOfLog (state_may_log log) (next_log_call o.position log) made
 IsStepOfLog o log (out call) made = made ≡ None
 IsStepOfLog o log (was_made call ok) made = made ≡ Some (step.LogDone ok)
 
-abbrev pub IsStepOfInstaller : Setting → LogTold → CallTold → Option Step → Type 0
+abbrev pub IsStepOfInstaller : Setting → LogState → CallState → Option Step → Type 0
 IsStepOfInstaller o log idle made =
-    IsNextOfInstaller (may_install_told log) (IsNextOfInstalling o.geometry.blocks log) made
+    IsNextOfInstaller (state_may_install log) (IsNextOfInstalling o.geometry.blocks log) made
 IsStepOfInstaller o log (out call) made = made ≡ None
 IsStepOfInstaller o log (was_made call ok) made = made ≡ Some (step.InstDone ok)
 
 -- the call that is out is made
-abbrev pub IsStepOfLogIo : CallTold → Option Step → Type 0
+abbrev pub IsStepOfLogIo : CallState → Option Step → Type 0
 IsStepOfLogIo (out call) (Some (step.LogIo ok)) = Unit {0}
 IsStepOfLogIo (out call) _ = ⊥
 IsStepOfLogIo idle made = made ≡ None
 IsStepOfLogIo (was_made call ok) made = made ≡ None
 
-abbrev pub IsStepOfInstIo : CallTold → Option Step → Type 0
+abbrev pub IsStepOfInstIo : CallState → Option Step → Type 0
 IsStepOfInstIo (out call) (Some (step.InstIo ok)) = Unit {0}
 IsStepOfInstIo (out call) _ = ⊥
 IsStepOfInstIo idle made = made ≡ None
 IsStepOfInstIo (was_made call ok) made = made ≡ None
 
 -- An event that applies makes a step of its kind, and one that doesn't makes none.
-abbrev pub IsStepOf : Setting → Told → Event → Option Step → Type 0
-IsStepOf o told (event.Call worker credential moment call) made = IsStepOfCall (told.workers worker) made
-IsStepOf o told (event.Work worker) made = IsStepOfWork o told worker (told.workers worker) made
-IsStepOf o told (event.Read worker) made = IsStepOfRead (told.workers worker) made
-IsStepOf o told event.Log made = IsStepOfLog o told.log told.log.log_call made
-IsStepOf o told event.LogIo made = IsStepOfLogIo told.log.log_call made
-IsStepOf o told event.Install made = IsStepOfInstaller o told.log told.log.inst_call made
-IsStepOf o told event.InstIo made = IsStepOfInstIo told.log.inst_call made
+abbrev pub IsStepOf : Setting → RunState → Event → Option Step → Type 0
+IsStepOf o run_state (event.Call worker credential moment call) made = IsStepOfCall (run_state.workers worker) made
+IsStepOf o run_state (event.Work worker) made = IsStepOfWork o run_state worker (run_state.workers worker) made
+IsStepOf o run_state (event.Read worker) made = IsStepOfRead (run_state.workers worker) made
+IsStepOf o run_state event.Log made = IsStepOfLog o run_state.log run_state.log.log_call made
+IsStepOf o run_state event.LogIo made = IsStepOfLogIo run_state.log.log_call made
+IsStepOf o run_state event.Install made = IsStepOfInstaller o run_state.log run_state.log.inst_call made
+IsStepOf o run_state event.InstIo made = IsStepOfInstIo run_state.log.inst_call made
 
 -- ---- along a run
 
 -- what is told before the event of an index
-abbrev pub told_before : Schedule → List (Option Step) → ℕ → Told
-told_before events steps index = told_along at_first (take index (zip events steps))
+abbrev pub state_before : Schedule → List (Option Step) → ℕ → RunState
+state_before events steps index = state_along at_first (take index (zip events steps))
 
 -- how far a worker is before the event of an index
 abbrev pub progress_before : Schedule → List (Option Step) → ℕ → ℕ → Progress
-progress_before events steps worker index = (told_before events steps index).workers worker
+progress_before events steps worker index = (state_before events steps index).workers worker
 
 -- the worker that an event is of; those of the log and the installer are of none
 abbrev pub worker_of : Event → Option ℕ

@@ -32,11 +32,11 @@ refusals run = length run.refused.items
 
 -- what a run hands back: what it tells, and how often memory was refused to it
 pub record Report : Type 0 where
-  pub told : Transcript
+  pub run_transcript : Transcript
   pub refused : ℕ
 
 abbrev pub report_of : Run → Report
-report_of run = record { told = transcript_of run; refused = refusals run }
+report_of run = record { run_transcript = transcript_of run; refused = refusals run }
 
 -- a committed procedure as an entry of the sequential server's history
 abbrev pub entry_of : Committed → Entry

@@ -32,7 +32,7 @@ pub record IsStableAnswer (t : Transcript) (answer : Answer) (place : ℕ) : Typ
   pub is_entry : committed_at t place ≡ Some entry
   pub placed : answer.place ≡ Some (record { 0 = place })
   pub waits : is_answered_stable entry.call ≡ true
-  pub told : answer.verdict ≡ verdict.Reply entry.reply
+  pub is_replied : answer.verdict ≡ verdict.Reply entry.reply
 
 abbrev pub is_commit : Call → Bool
 is_commit (call.Commit file offset count) = true
@@ -66,14 +66,14 @@ refusal asked cause.NoMemory = verdict.NoMemory
 
 -- the answer is of no procedure
 abbrev pub IsOfNone : Verdict → Answer → Type 0
-IsOfNone told a = (a.place ≡ None) × (a.verdict ≡ told)
+IsOfNone is_replied a = (a.place ≡ None) × (a.verdict ≡ is_replied)
 
 -- the answer is the reply of the procedure of this place
 pub record IsReplyAt (t : Transcript) (place : Seq) (a : Answer) : Type 0 where
   pub entry : Committed
   pub is_entry : committed_at t place.0 ≡ Some entry
   pub placed : a.place ≡ Some place
-  pub told : a.verdict ≡ verdict.Reply entry.reply
+  pub is_replied : a.verdict ≡ verdict.Reply entry.reply
 
 -- the procedure of this place was committed, and a failure kept it from being settled
 abbrev pub IsUnsettledAt : Call → Seq → Answer → Type 0

@@ -4,42 +4,42 @@ use Rattle.disk.specs.declared.block.BlockNo.{BlockNo}
 use Rattle.layout.specs.declared.geometry.Geometry.{Geometry}
 use Rattle.objects.specs.declared.mode.Mode.TheVariants as modes
 use Rattle.procs.specs.Asks.{Asks, Claims}
-use Rattle.store_promise.specs.Aims.{IsCovered, Rises, is_barred}
-use Rattle.store_promise.specs.declared.aims.Aim.{Aim}
-use Rattle.store_promise.specs.declared.aims.Aim.TheVariants as aim
-use Rattle.store_promise.specs.Progress.{Begun, Job, Progress, Stage, Taken, Wished, Idle, At, Called, Planning}
-use Rattle.store_promise.specs.Progress.{Reading, Read, Refused, Again, Waiting, aim_of, has_taken, takes}
-use Rattle.store_promise.specs.Schedule.{Told, whole_wish, wish_of}
+use Rattle.store_promise.specs.LockRequests.{IsCovered, Rises, is_barred}
+use Rattle.store_promise.specs.declared.lock_requests.LockRequest.{LockRequest}
+use Rattle.store_promise.specs.declared.lock_requests.LockRequest.TheVariants as lock_request
+use Rattle.store_promise.specs.Progress.{Begun, Job, Progress, Stage, Taken, RangeRequest, Idle, At, Called, Planning}
+use Rattle.store_promise.specs.Progress.{Reading, Read, Refused, Again, Waiting, lock_request_of, has_taken, takes}
+use Rattle.store_promise.specs.Schedule.{RunState, whole_block_request, range_request_at}
 
 -- ---- what is taken
 
 -- an object that plans may ask for, in whatever mode, or a block that they may ask to claim
-abbrev pub IsAim : Geometry → Aim → Type 0
-IsAim g (aim.Object addr mode) = Asks g addr
-IsAim g (aim.Claim block) = Claims g block
+abbrev pub IsLockRequest : Geometry → LockRequest → Type 0
+IsLockRequest g (lock_request.Object addr mode) = Asks g addr
+IsLockRequest g (lock_request.Claim block) = Claims g block
 
--- aims of an image that rise
-pub record AreAims (g : Geometry) (aims : List Aim) : Type 0 where
-  pub of_image : All (IsAim g) aims
-  pub rise : Rises aims
+-- lock requests of an image that rise
+pub record AreLockRequests (g : Geometry) (lock_requests : List LockRequest) : Type 0 where
+  pub of_image : All (IsLockRequest g) lock_requests
+  pub rise : Rises lock_requests
 
--- What a transaction has taken, and behind it what is left to be taken again, are aims of the image that rise.
+-- What a transaction has taken, and behind it what is left to be taken again, are lock requests of the image that rise.
 -- What its plan was told is taken, in its mode or in a higher one, and what it has claimed is; and it was told and has
 -- claimed nothing while something is left.
 pub record AreTakenBy (g : Geometry) (begun : Begun) : Type 0 where
-  pub aims : AreAims g (begun.taken ++ begun.left)
-  pub held : All (λ (one : Taken). IsCovered begun.taken (aim_of one)) begun.held
-  pub claimed : All (λ (block : BlockNo). Contains begun.taken (aim.Claim block)) begun.claimed
+  pub lock_requests : AreLockRequests g (begun.taken ++ begun.left)
+  pub held : All (λ (one : Taken). IsCovered begun.taken (lock_request_of one)) begun.held
+  pub claimed : All (λ (block : BlockNo). Contains begun.taken (lock_request.Claim block)) begun.claimed
   pub first : (begun.left ≡ []) ⊎ ((begun.held ≡ []) × (begun.claimed ≡ []))
 
--- so it is at each stage; what a call knows are such aims, and so is what it was kept off from
+-- so it is at each stage; what a call knows are such lock requests, and so is what it was kept off from
 abbrev pub AreTakenAt : Geometry → Stage → Type 0
-AreTakenAt g (Called known) = AreAims g known
+AreTakenAt g (Called known) = AreLockRequests g known
 AreTakenAt g (Planning begun) = AreTakenBy g begun
 AreTakenAt g (Reading begun taken) = AreTakenBy g begun
 AreTakenAt g (Read begun taken ok) = AreTakenBy g begun
 AreTakenAt g (Refused begun why) = AreTakenBy g begun
-AreTakenAt g (Again begun wished) = AreTakenBy g begun × IfSome wished (IsAim g)
+AreTakenAt g (Again begun request) = AreTakenBy g begun × IfSome request (IsLockRequest g)
 AreTakenAt g (Waiting place) = Unit {0}
 
 abbrev pub HasTakenWell : Geometry → Progress → Type 0
@@ -48,32 +48,32 @@ HasTakenWell g (At job stage) = AreTakenAt g stage
 
 -- ---- who waits
 
--- a worker, and what it wishes
+-- a worker, and what it asks for
 pub record Waiter : Type 0 where
   pub worker : ℕ
-  pub wished : Aim
+  pub request : LockRequest
 
-abbrev pub wished_of : Aim → Wished
-wished_of (aim.Object addr mode) = wish_of addr mode
-wished_of (aim.Claim block) = whole_wish block
+abbrev pub range_request_of : LockRequest → RangeRequest
+range_request_of (lock_request.Object addr mode) = range_request_at addr mode
+range_request_of (lock_request.Claim block) = whole_block_request block
 
--- what is wished alone: who has taken a byte of it, in whatever mode, keeps that off
-abbrev pub wished_alone : Aim → Wished
-wished_alone one = record (wished_of one) { mode = modes.Exclusive }
+-- what is asked for alone: who has taken a byte of it, in whatever mode, keeps that off
+abbrev pub exclusive_request_of : LockRequest → RangeRequest
+exclusive_request_of one = record (range_request_of one) { mode = modes.Exclusive }
 
--- A worker waits for another, whose transaction has taken what it wishes: with its own it has taken nothing that bars
--- the wait, and no byte of what it wishes. One that has doesn't wait (`kept_off`); and who fetches a block waits for
+-- A worker waits for another, whose transaction has taken what it asks for: with its own it has taken nothing that bars
+-- the wait, and no byte of what it asks for. One that has doesn't wait (`deferred`); and who fetches a block waits for
 -- nobody.
-pub record WaitsFor (g : Geometry) (told : Told) (one other : Waiter) : Type 0 where
+pub record WaitsFor (g : Geometry) (run_state : RunState) (one other : Waiter) : Type 0 where
   pub job : Job
   pub begun : Begun
-  pub planning : told.workers one.worker ≡ At job (Planning begun)
-  pub asks : IsAim g one.wished
-  pub free : is_barred one.wished begun.taken ≡ false
-  pub not_own : takes (wished_alone one.wished) begun ≡ false
-  pub theirs : has_taken (wished_of one.wished) (told.workers other.worker) ≡ true
+  pub planning : run_state.workers one.worker ≡ At job (Planning begun)
+  pub asks : IsLockRequest g one.request
+  pub free : is_barred one.request begun.taken ≡ false
+  pub not_own : takes (exclusive_request_of one.request) begun ≡ false
+  pub theirs : has_taken (range_request_of one.request) (run_state.workers other.worker) ≡ true
 
 -- each of these waits for the next, and the last of them for another
-abbrev pub AllWait : Geometry → Told → Waiter → List Waiter → Waiter → Type 0
-AllWait g told one [] last = WaitsFor g told one last
-AllWait g told one (next ∷ later) last = WaitsFor g told one next × AllWait g told next later last
+abbrev pub AllWait : Geometry → RunState → Waiter → List Waiter → Waiter → Type 0
+AllWait g run_state one [] last = WaitsFor g run_state one last
+AllWait g run_state one (next ∷ later) last = WaitsFor g run_state one next × AllWait g run_state next later last

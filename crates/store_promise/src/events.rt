@@ -36,9 +36,9 @@ pub enum Event {
     InstIo,
 }
 
-/// What a wish of a transaction was answered.
+/// What a lock request of a transaction was answered.
 #[derive(Clone, Copy, Debug, PartialEq, Eq)]
-pub enum Wish {
+pub enum LockAnswer {
     Held,
     Busy,
     Fetch,
@@ -117,8 +117,8 @@ pub enum Step {
     /// The number of the transaction, or why none was begun.
     Begun(Result<u64, BeginFault>),
     /// An address was wanted in a mode, and what that was answered.
-    Wanted(Addr, Mode, Wish),
-    Claimed(BlockNo, Wish),
+    Wanted(Addr, Mode, LockAnswer),
+    Claimed(BlockNo, LockAnswer),
     Fetched(BlockNo),
     FetchFailed(BlockNo),
     /// The blocks that the change writes, each once, and what the commit was answered.

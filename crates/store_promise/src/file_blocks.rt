@@ -14,7 +14,7 @@ ghost use Rattle.circ.specs.Log.Calls.{Pending, home_after};
 ghost use Rattle.circ.specs.Log.Installer.{with_inst_back, with_inst_out};
 ghost use Rattle.circ.specs.Log.Log.{IsLawful, Log, installed_place, settled_place};
 ghost use Rattle.circ.specs.Log.Logger.{with_log_back, with_log_out};
-ghost use Rattle.store_promise.specs.OpenSince.{HasFileBlocks, IsOpenSince, StandsBeside, blocks_after};
+ghost use Rattle.store_promise.specs.OpenSince.{HasFileBlocks, IsOpenSince, LeavesLogUnchanged, blocks_after};
 ghost use Rattle.store_promise.specs.OpenSince.{file_blocks};
 
 /// The blocks stand for the files as they are, and have what any transaction holds for reading.
@@ -35,7 +35,7 @@ pub fn only_a_commit_changes_the_files()
         (first last : Tree) (entries : List Entry) (tx place : ℕ) (plan : Planned)
         → IsOpenSince base d old logging installing boot first entries last → TakesPlace old tx plan place new
         → file_blocks base new ≡ with_objects (file_blocks base old) plan.written }
-    ensures beside { (base : Image) (old new : CoreState) → StandsBeside old new
+    ensures log_unchanged { (base : Image) (old new : CoreState) → LeavesLogUnchanged old new
         → file_blocks base new ≡ file_blocks base old }
     ensures logger { (base : Image) (core : CoreState) (ok : Bool)
         → (file_blocks base (with_log_call core) ≡ file_blocks base core)

@@ -19,7 +19,7 @@ pub fn a_fresh_image_is_good()
         → IsFresh g moment image
         → IsGoodImage g.blocks image (format_tree (geometry_of g) moment) 0 }
 {
-    circ::law::an_empty_log_overlays_nothing();
+    circ::law::an_empty_log_hides_nothing();
     layout::a_super_block_is_its_bytes();
     layout::a_fresh_image_stands_for_the_format_tree();
 }

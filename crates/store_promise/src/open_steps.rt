@@ -20,15 +20,15 @@ ghost use Rattle.circ.specs.Log.Io.{HasMade, Io};
 ghost use Rattle.circ.specs.Log.Log.{installed_place, settled_place};
 ghost use Rattle.circ.specs.Log.Logger.{is_log_out, with_log_back};
 ghost use Rattle.store_promise.specs.GoodImage.{IsGoodImage};
-ghost use Rattle.store_promise.specs.OpenSince.{HasKeptFiles, IsOpenSince, IsSoundCore, KeepsFiles};
-ghost use Rattle.store_promise.specs.OpenSince.{LeavesBeginning, LeavesBlocks, StandsBeside, TellsOf};
+ghost use Rattle.store_promise.specs.OpenSince.{HasPreservedFiles, IsOpenSince, IsSoundCore, PreservesFiles};
+ghost use Rattle.store_promise.specs.OpenSince.{LeavesBeginning, LeavesBlocks, LeavesLogUnchanged, TellsOf};
 
 /// What a transaction takes, reads and lets go of leaves the store open: it changes neither log nor commits.
 pub fn a_transaction_leaves_the_store_open()
     ensures { (base : Image) (d : Device) (old new : CoreState) (logging installing : Pending) (boot : ℕ)
         (first last : Tree) (entries : List Entry)
         → IsOpenSince base d old logging installing boot first entries last
-        → StandsBeside old new → IsSoundCore base new
+        → LeavesLogUnchanged old new → IsSoundCore base new
         → IsOpenSince base d new logging installing boot first entries last }
 {}
 
@@ -39,7 +39,7 @@ pub fn a_read_leaves_the_store_open()
         → IsOpenSince base d core logging installing boot first entries last → HasRead d later
         → IsOpenSince base later core logging installing boot first entries last }
 {
-    circ::law::a_read_keeps_agreement();
+    circ::law::a_read_preserves_agreement();
     txn_law::steps_keep_what_may_be_read();
 }
 
@@ -79,8 +79,8 @@ pub fn the_logger_leaves_the_store_open()
         → LogCallComesBack old.log io ok new.log → IsSoundCore base new
         → IsOpenSince base d new idle installing boot first entries last }
 {
-    circ::law::a_call_of_the_logger_keeps_agreement();
-    txn_law::the_logger_keeps_what_may_be_read();
+    circ::law::a_call_of_the_logger_preserves_agreement();
+    txn_law::the_logger_preserves_what_may_be_read();
 }
 
 /// So do the installer's. Once its last call is given back the store is open over what was brought home.
@@ -109,8 +109,8 @@ pub fn the_installer_leaves_the_store_open()
         → IsSoundCore (if is_inst_out old.log io then home_after base old.log ok else base) new
         → IsOpenSince (home_after base old.log ok) d new logging idle boot first entries last }
 {
-    circ::law::a_call_of_the_installer_keeps_agreement();
-    txn_law::the_installer_keeps_what_may_be_read();
+    circ::law::a_call_of_the_installer_preserves_agreement();
+    txn_law::the_installer_preserves_what_may_be_read();
 }
 
 /// Whatever a stop leaves of a store that is open since then is good, and has the files after a beginning of
@@ -133,21 +133,21 @@ pub fn a_stop_leaves_a_beginning()
 }
 
 /// So it was at each moment: a device call moves what was now into the past, and one more entry keeps the past.
-pub fn an_open_store_keeps_its_files()
+pub fn an_open_store_preserves_its_files()
     ensures call { (before old new : Device) (base : Image) (core : CoreState) (logging installing : Pending)
         (boot settled : ℕ) (first last : Tree) (entries : List Entry)
-        → HasKeptFiles before old boot first entries settled
+        → HasPreservedFiles before old boot first entries settled
         → IsOpenSince base old core logging installing boot first entries last
         → settled ≤ settled_place core.log
-        → OneLater old new → HasKeptFiles before new boot first entries settled }
+        → OneLater old new → HasPreservedFiles before new boot first entries settled }
     ensures now { (before d : Device) (base : Image) (core : CoreState) (logging installing : Pending)
         (boot settled : ℕ) (first last : Tree) (entries : List Entry)
-        → HasKeptFiles before d boot first entries settled
+        → HasPreservedFiles before d boot first entries settled
         → IsOpenSince base d core logging installing boot first entries last → settled ≤ settled_place core.log
-        → KeepsFiles before d boot first entries settled }
+        → PreservesFiles before d boot first entries settled }
     ensures longer { (before d : Device) (boot settled fewer : ℕ) (first : Tree) (entries more : List Entry)
-        → HasKeptFiles before d boot first entries settled → fewer ≤ settled
-        → HasKeptFiles before d boot first (entries ++ more) fewer }
+        → HasPreservedFiles before d boot first entries settled → fewer ≤ settled
+        → HasPreservedFiles before d boot first (entries ++ more) fewer }
 {
     crate::a_stop_leaves_a_beginning();
 }

@@ -3,7 +3,7 @@ ghost use Rattle.std.specs.Prelude.{◌≡◌, ℕ, ◌+◌, ◌<◌, ◌^◌, N
 ghost use Rattle.disk.specs.Crash.{Image};
 ghost use Rattle.disk.specs.Device.{Device};
 ghost use Rattle.nfs_spec.specs.Model.Tree.{Tree};
-ghost use Rattle.circ.specs.Log.Recovery.{IsUnspoiled, image_of};
+ghost use Rattle.circ.specs.Log.Recovery.{IsCertain, image_of};
 ghost use Rattle.store_promise.specs.declared.fault.OpenFault.{OpenFault};
 ghost use Rattle.store_promise.specs.declared.fault.OpenFault.TheVariants as fault;
 ghost use Rattle.store_promise.specs.GoodImage.{IsGoodImage};
@@ -25,7 +25,7 @@ pub fn an_image_shows_one_cause()
 /// An image that shows a cause, and is opened though its device keeps the model and is unspoiled, breaks what
 /// is promised of openings of any image.
 pub fn what_shows_a_cause_is_not_opened()
-    ensures { (before later : Device) (cause : OpenFault) → IsUnspoiled before
+    ensures { (before later : Device) (cause : OpenFault) → IsCertain before
         → IsShownBy cause before.size (image_of before) → IsAnsweredFor (Unit {0}) None before later → ⊥ }
 {}
 

@@ -46,7 +46,7 @@ pub struct Run {
 }
 
 impl Run {
-    ghost use Rattle.store_promise.specs.Room.{HasRoom};
+    ghost use Rattle.store_promise.specs.RunCapacity.{HasReserved};
 
     /// A run in which nothing has happened yet.
     pub fn new(alloc: Global, boot: u64) -> Run
@@ -65,8 +65,8 @@ impl Run {
     }
 
     /// Makes room to tell of one more event. Where memory was refused it is noted.
-    pub fn make_room(&mut self) -> Result<(), AllocError>
-        ensures room { OnOk result (HasRoom self.new) }
+    pub fn reserve_next(&mut self) -> Result<(), AllocError>
+        ensures has_space { OnOk result (HasReserved self.new) }
         ensures boot { self.new.boot ≡ self.old.boot }
         ensures history { self.new.history.items ≡ self.old.history.items }
         ensures answers { self.new.answers.items ≡ self.old.answers.items }
@@ -83,7 +83,7 @@ impl Run {
 
     // Makes room to tell of one more event.
     fn reserve(&mut self) -> Result<(), AllocError>
-        ensures room { OnOk result (HasRoom self.new) }
+        ensures has_space { OnOk result (HasReserved self.new) }
         ensures boot { self.new.boot ≡ self.old.boot }
         ensures history { self.new.history.items ≡ self.old.history.items }
         ensures answers { self.new.answers.items ≡ self.old.answers.items }
@@ -96,7 +96,7 @@ impl Run {
     }
 
     /// Tells of a procedure that the event now taken has committed.
-    pub fn note_entry(&mut self, worker: usize, clock: u64, entry: Entry)
+    pub fn trace_entry(&mut self, worker: usize, clock: u64, entry: Entry)
         requires { vec_len self.old.history < vec_capacity self.old.history }
         ensures history { self.new.history.items ≡ self.old.history.items ++ record {
           worker = worker;
@@ -123,7 +123,7 @@ impl Run {
     }
 
     /// Tells of an answer that the event now taken has given.
-    pub fn note_answer(&mut self, worker: usize, clock: u64, answer: CallAnswer)
+    pub fn trace_answer(&mut self, worker: usize, clock: u64, answer: CallAnswer)
         requires { vec_len self.old.answers < vec_capacity self.old.answers }
         ensures answers { self.new.answers.items ≡ self.old.answers.items ++ record {
           worker = worker;
@@ -148,7 +148,7 @@ impl Run {
     }
 
     /// Tells of the step of the event now taken.
-    pub fn note_step(&mut self, step: Option<Step>)
+    pub fn trace_step(&mut self, step: Option<Step>)
         requires { vec_len self.old.steps < vec_capacity self.old.steps }
         ensures steps { self.new.steps.items ≡ self.old.steps.items ++ step ∷ [] }
         ensures boot { self.new.boot ≡ self.old.boot }

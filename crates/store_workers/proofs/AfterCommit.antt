@@ -9,13 +9,13 @@ use Rattle.txn.specs.declared.outcomes.Commit.TheVariants as commit
 use Rattle.circ.specs.declared.log.outcomes.Seq.{Seq}
 use Rattle.store_workers.specs.Phases.{is_served}
 use Rattle.store_workers.specs.Worker.{IsHeld, IsSound}
-use Rattle.store_workers.specs.WorkerAnswers.{after_commit, told_of, with_entry}
+use Rattle.store_workers.specs.WorkerAnswers.{after_commit, answered_or_waiting, with_entry}
 use Rattle.store_workers.specs.declared.workers.parts.Job.{Job}
 use Rattle.store_workers.specs.declared.workers.parts.State.{State}
 
 -- answered or waiting
 placed : (worker : State) (job : Job) (reply : Reply) (place : Seq) (stable : Bool) → IsHeld worker
-    → IsSound (with_entry job reply (told_of stable job reply place worker))
+    → IsSound (with_entry job reply (answered_or_waiting stable job reply place worker))
 placed worker job reply place true held = search rules
 placed worker job reply place false held = search rules
 

@@ -13,7 +13,7 @@ use Rattle.nfs_types.specs.declared.reply.Reply.{Reply}
 use Rattle.circ.specs.declared.log.outcomes.Seq.{Seq}
 use Rattle.procs.specs.Outcome.{Outcome}
 use Rattle.txn.specs.Core.{CoreState, IsOut, with_begun, without}
-use Rattle.txn.specs.CoreWindow.{KeepsReads}
+use Rattle.txn.specs.CoreWindow.{PreservesReads}
 use Rattle.txn.specs.Fetch.{Fetch}
 use Rattle.txn.specs.Leaves.{Leaves, is_fetching, taken_by, without_fetch}
 use Rattle.txn.specs.Outcomes.{IsClaimed, IsCommit, IsWanted}
@@ -24,22 +24,22 @@ use Rattle.txn.specs.declared.outcomes.Commit.TheVariants as commit
 use Rattle.txn.specs.declared.outcomes.Want.{Want}
 use Rattle.txn.specs.declared.outcomes.Want.TheVariants as want
 use Rattle.txn.proofs.OtherSteps.{by_begin, by_claimed, by_commit, by_end, by_failed, by_fetched, by_want}
-use Rattle.txn.proofs.OtherSteps.{keeps_same}
+use Rattle.txn.proofs.OtherSteps.{preserves_same}
 use Rattle.objects.proofs.Residents.{same_block}
-use Rattle.txn_law.specs.Others.{KeepsTaken}
+use Rattle.txn_law.specs.Others.{PreservesTaken}
 use Rattle.store_promise.specs.declared.answers.Verdict.TheVariants as verdict
 use Rattle.store_promise.specs.declared.events.Step.{Step}
-use Rattle.store_images.specs.Fetches.{KeepsFetches}
+use Rattle.store_images.specs.Fetches.{PreservesFetches}
 use Rattle.store_workers.proofs.HowFar.{without_broken_reply, without_reply}
 use Rattle.store_workers.proofs.WorkCases.{Cases, by_cases}
-use Rattle.store_workers.specs.Beside.{IsFetchAt, IsFetchedBy, LeavesOthers}
+use Rattle.store_workers.specs.Unaffected.{IsFetchAt, IsFetchedBy, LeavesOthers}
 use Rattle.store_workers.specs.Phases.{has_fetch, has_transaction}
-use Rattle.store_workers.specs.Telling.{told}
-use Rattle.store_workers.specs.WorkerAnswers.{after_commit, begun_claimed, begun_wanted, told_of, with_answer}
+use Rattle.store_workers.specs.RunReports.{reported}
+use Rattle.store_workers.specs.WorkerAnswers.{after_commit, begun_claimed, begun_wanted, answered_or_waiting, with_answer}
 use Rattle.store_workers.specs.WorkerAnswers.{with_entry}
 use Rattle.store_workers.specs.WorkerSteps.{GoesOn, HasAborted, HasBegun, HasGivenBack}
-use Rattle.store_workers.specs.WorkerSteps.{IsTold, KeepsReadsOf, Side, Waits, none_begun, planned_of}
-use Rattle.store_workers.specs.WorkerSteps.{side, there_given, with_snap}
+use Rattle.store_workers.specs.WorkerSteps.{IsReplySent, PreservesReadsOf, WorkerAndCore, Waits, none_begun, planned_of}
+use Rattle.store_workers.specs.WorkerSteps.{worker_and_core, there_given, with_snap}
 use Rattle.store_workers.specs.declared.workers.parts.Begun.{Begun}
 use Rattle.store_workers.specs.declared.workers.parts.Job.{Job}
 use Rattle.store_workers.specs.declared.workers.parts.Phase.{Phase}
@@ -80,7 +80,7 @@ none_at block (Some io) is at = cc
 -- ---- by what is out, and what is fetched
 
 -- what becomes of the transactions
-pub data TxGoes (old new : Side) : Type 0 where
+pub data TxGoes (old new : WorkerAndCore) : Type 0 where
   -- it is the one that was, or none was
   stays_out : new.worker.begun.tx ≡ old.worker.begun.tx → new.core.out ≡ old.core.out
       → new.core.begun ≡ old.core.begun → TxGoes old new
@@ -92,8 +92,8 @@ pub data TxGoes (old new : Side) : Type 0 where
       → new.core ≡ with_begun old.core → TxGoes old new
 
 -- and of the fetches
-pub data IoGoes (old new : Side) : Type 0 where
-  keeps_io : new.worker.begun.io ≡ old.worker.begun.io → KeepsFetches old.core new.core → IoGoes old new
+pub data IoGoes (old new : WorkerAndCore) : Type 0 where
+  preserves_io : new.worker.begun.io ≡ old.worker.begun.io → PreservesFetches old.core new.core → IoGoes old new
   asks_io : (io : Fetch) → old.worker.begun.io ≡ None → new.worker.begun.io ≡ Some io
       → is_fetching old.core io.block ≡ false
       → ((block : BlockNo) → is_fetching new.core block
@@ -102,8 +102,8 @@ pub data IoGoes (old new : Side) : Type 0 where
       → ((block : BlockNo) → is_fetching new.core block
       ≡ (not (nat_eq block.0 io.block.0) && is_fetching old.core block)) → IoGoes old new
 
-module _ (old new : Side) (others : (tx : ℕ) → (old.worker.begun.tx ≡ Some tx → ⊥)
-    → KeepsTaken old.core new.core tx) (own_out : IfSome old.worker.begun.tx (IsOut old.core))
+module _ (old new : WorkerAndCore) (others : (tx : ℕ) → (old.worker.begun.tx ≡ Some tx → ⊥)
+    → PreservesTaken old.core new.core tx) (own_out : IfSome old.worker.begun.tx (IsOut old.core))
     (own_io : IsFetchedBy old.core old.worker.begun.io) where
   record TxLeft : Type 0 where
     out : (tx : ℕ) → IsOut new.core tx
@@ -178,19 +178,19 @@ module _ (old new : Side) (others : (tx : ℕ) → (old.worker.begun.tx ≡ Some
           (ap (λ (b : BlockNo). b.0) is)) ∙ differs))
 
   io_left : IoGoes old new → IoLeft
-  io_left (keeps_io io_is keeps) = record {
+  io_left (preserves_io io_is preserves) = record {
     pending = λ block is. elim (at_or_not block old.worker.begun.io) [
       | inl at ↦ inl (subst (IsFetchAt block) (sym io_is) at)
-      | inr not_at ↦ inr (sym (keeps block) ∙ is, not_at)
+      | inr not_at ↦ inr (sym (preserves block) ∙ is, not_at)
     ];
     fetched = subst (IsFetchedBy new.core) (sym io_is) (still old.worker.begun.io own_io);
     fresh = λ block at. inl (subst (IsFetchAt block) io_is at);
-    stays = λ block is not_at. keeps block ∙ is;
+    stays = λ block is not_at. preserves block ∙ is;
   }
     where
       still : (io : Option Fetch) → IsFetchedBy old.core io → IsFetchedBy new.core io
       still None is = tt
-      still (Some io) is = keeps io.block ∙ is
+      still (Some io) is = preserves io.block ∙ is
   io_left (asks_io io none now settled fetches) = record {
     pending = λ block is. by block (nat_eq block.0 io.block.0) refl (sym (fetches block) ∙ is);
     fetched = subst (IsFetchedBy new.core) (sym now) (fetches io.block
@@ -247,7 +247,7 @@ module _ (old new : Side) (others : (tx : ℕ) → (old.worker.begun.tx ≡ Some
 
 -- ---- a step
 
-module _ (old new : Side) (keeps : KeepsReadsOf old new)
+module _ (old new : WorkerAndCore) (preserves : PreservesReadsOf old new)
     (own_out : IfSome old.worker.begun.tx (IsOut old.core))
     (own_io : IsFetchedBy old.core old.worker.begun.io) where
   abbrev LeftSo : Phase → Option Step → Type 0
@@ -256,29 +256,29 @@ module _ (old new : Side) (keeps : KeepsReadsOf old new)
 
   -- what another reads stays
   reads : (tx other : ℕ) → old.worker.begun.tx ≡ Some tx → (old.worker.begun.tx ≡ Some other → ⊥)
-      → KeepsReads old.core new.core other
-  reads tx other is differs = keeps other (λ same. absurd (differs same))
+      → PreservesReads old.core new.core other
+  reads tx other is differs = preserves other (λ same. absurd (differs same))
 
   apart : (tx other : ℕ) → old.worker.begun.tx ≡ Some tx → (old.worker.begun.tx ≡ Some other → ⊥) → other ≡ tx → ⊥
   apart tx other is differs same = differs (is ∙ ap (λ (n : ℕ). Some n) (sym same))
 
-  by_parts : ((tx : ℕ) → (old.worker.begun.tx ≡ Some tx → ⊥) → KeepsTaken old.core new.core tx)
+  by_parts : ((tx : ℕ) → (old.worker.begun.tx ≡ Some tx → ⊥) → PreservesTaken old.core new.core tx)
       → TxGoes old new → IoGoes old new → LeavesOthers old new
   by_parts others tx_goes io_goes = leaves_by old new others own_out own_io tx_goes io_goes
 
   -- nothing has changed of the core
   same_core : new.core ≡ old.core → new.worker.begun.tx ≡ old.worker.begun.tx
       → new.worker.begun.io ≡ old.worker.begun.io → LeavesOthers old new
-  same_core core tx io = by_parts (λ t differs. keeps_same old.core new.core t core)
+  same_core core tx io = by_parts (λ t differs. preserves_same old.core new.core t core)
       (stays_out tx (ap (λ (c : CoreState). c.out) core) (ap (λ (c : CoreState). c.begun) core))
-      (keeps_io io (λ block. ap (λ (c : CoreState). is_fetching c block) core))
+      (preserves_io io (λ block. ap (λ (c : CoreState). is_fetching c block) core))
 
   begins : (job : Job) (number : ℕ) → HasBegun job old number new → old.worker.begun.tx ≡ None
       → old.worker.begun.io ≡ None → LeavesOthers old new
   begins job number has no_tx no_io =
-      by_parts (λ t differs. by_begin old.core new.core t (keeps t (λ same. absurd (differs same))) has.core)
+      by_parts (λ t differs. by_begin old.core new.core t (preserves t (λ same. absurd (differs same))) has.core)
       (comes no_tx (ap (λ (s : State). s.begun.tx) has.worker ∙ ap (λ (n : ℕ). Some n) has.next) has.core)
-      (keeps_io (ap (λ (s : State). s.begun.io) has.worker ∙ sym no_io)
+      (preserves_io (ap (λ (s : State). s.begun.io) has.worker ∙ sym no_io)
       (λ block. ap (λ (c : CoreState). is_fetching c block) has.core))
 
   wants : (tx : ℕ) (addr : Addr) (mode : Mode) (answer : Want) → old.worker.begun.tx ≡ Some tx → old.worker.begun.io ≡ None
@@ -310,18 +310,18 @@ module _ (old new : Side) (keeps : KeepsReadsOf old new)
       ios : (answer : Want) → IsWanted old.core tx addr mode answer new.core
           → new.worker.begun ≡ begun_wanted answer → IoGoes old new
       ios (want.Held back bytes) is got =
-          keeps_io (ap (λ (b : Begun). b.io) got ∙ sym no_io) is.2.leaves.fetches
+          preserves_io (ap (λ (b : Begun). b.io) got ∙ sym no_io) is.2.leaves.fetches
       ios (want.Fetch back io) is got = asks_io io no_io (ap (λ (b : Begun). b.io) got)
           (ap (λ (b : BlockNo). is_fetching old.core b) is.2.block ∙ is.1.settled)
           (λ block. is.2.leaves.fetches block ∙ ap (λ (b : BlockNo). nat_eq block.0 b.0 || is_fetching old.core block)
           (sym is.2.block))
-      ios (want.Busy back) is got = keeps_io (ap (λ (b : Begun). b.io) got ∙ sym no_io)
+      ios (want.Busy back) is got = preserves_io (ap (λ (b : Begun). b.io) got ∙ sym no_io)
           (λ block. ap (λ (c : CoreState). is_fetching c block) is.2)
-      ios (want.Loading back) is got = keeps_io (ap (λ (b : Begun). b.io) got ∙ sym no_io)
+      ios (want.Loading back) is got = preserves_io (ap (λ (b : Begun). b.io) got ∙ sym no_io)
           (λ block. ap (λ (c : CoreState). is_fetching c block) is.2)
-      ios (want.Outside back) is got = keeps_io (ap (λ (b : Begun). b.io) got ∙ sym no_io)
+      ios (want.Outside back) is got = preserves_io (ap (λ (b : Begun). b.io) got ∙ sym no_io)
           (λ block. ap (λ (c : CoreState). is_fetching c block) is.2)
-      ios (want.NoMemory back) is got = keeps_io (ap (λ (b : Begun). b.io) got ∙ sym no_io)
+      ios (want.NoMemory back) is got = preserves_io (ap (λ (b : Begun). b.io) got ∙ sym no_io)
           (λ block. ap (λ (c : CoreState). is_fetching c block) is.2)
 
   takes : (tx : ℕ) (addr : Addr) (answer : Claim) → old.worker.begun.tx ≡ Some tx → old.worker.begun.io ≡ None
@@ -351,14 +351,14 @@ module _ (old new : Side) (keeps : KeepsReadsOf old new)
       ios : (answer : Claim) → IsClaimed old.core tx addr answer new.core
           → new.worker.begun ≡ begun_claimed answer → IoGoes old new
       ios (claim.Held back) is got =
-          keeps_io (ap (λ (b : Begun). b.io) got ∙ sym no_io) is.2.leaves.fetches
-      ios (claim.Busy back) is got = keeps_io (ap (λ (b : Begun). b.io) got ∙ sym no_io)
+          preserves_io (ap (λ (b : Begun). b.io) got ∙ sym no_io) is.2.leaves.fetches
+      ios (claim.Busy back) is got = preserves_io (ap (λ (b : Begun). b.io) got ∙ sym no_io)
           (λ block. ap (λ (c : CoreState). is_fetching c block) is.2)
-      ios (claim.Loading back) is got = keeps_io (ap (λ (b : Begun). b.io) got ∙ sym no_io)
+      ios (claim.Loading back) is got = preserves_io (ap (λ (b : Begun). b.io) got ∙ sym no_io)
           (λ block. ap (λ (c : CoreState). is_fetching c block) is.2)
-      ios (claim.Outside back) is got = keeps_io (ap (λ (b : Begun). b.io) got ∙ sym no_io)
+      ios (claim.Outside back) is got = preserves_io (ap (λ (b : Begun). b.io) got ∙ sym no_io)
           (λ block. ap (λ (c : CoreState). is_fetching c block) is.2)
-      ios (claim.NoMemory back) is got = keeps_io (ap (λ (b : Begun). b.io) got ∙ sym no_io)
+      ios (claim.NoMemory back) is got = preserves_io (ap (λ (b : Begun). b.io) got ∙ sym no_io)
           (λ block. ap (λ (c : CoreState). is_fetching c block) is.2)
 
   -- a transaction that was ended without a change
@@ -369,7 +369,7 @@ module _ (old new : Side) (keeps : KeepsReadsOf old new)
       by_parts (λ t differs. by_end old.core new.core tx t (apart tx t tx_is differs) (reads tx t tx_is differs)
       (ap (λ (c : CoreState). c.out) has.only) has.leaves)
       (ends tx tx_is no_tx (ap (λ (c : CoreState). c.out) has.only) (ap (λ (c : CoreState). c.begun) has.only))
-      (keeps_io (none ∙ sym no_io) has.leaves.fetches)
+      (preserves_io (none ∙ sym no_io) has.leaves.fetches)
 
   commits : (job : Job) (tx : ℕ) (done : Outcome) (base : State) (answer : Commit Outcome)
       → old.worker.begun.tx ≡ Some tx → old.worker.begun.io ≡ None → base.begun ≡ none_begun
@@ -384,12 +384,12 @@ module _ (old new : Side) (keeps : KeepsReadsOf old new)
       still back same got = got ∙ ap (λ (n : ℕ). Some n) same ∙ sym tx_is
 
       placed_begun : (place : Seq) (stable : Bool)
-          → (with_entry job done.reply (told_of stable job done.reply place base)).begun ≡ base.begun
+          → (with_entry job done.reply (answered_or_waiting stable job done.reply place base)).begun ≡ base.begun
       placed_begun place true = refl
       placed_begun place false = refl
 
       begun_then : (place : Seq)
-          → new.worker ≡ with_entry job done.reply (told_of (is_answered_stable job.call) job done.reply place base)
+          → new.worker ≡ with_entry job done.reply (answered_or_waiting (is_answered_stable job.call) job done.reply place base)
           → new.worker.begun ≡ none_begun
       begun_then place is = ap (λ (s : State). s.begun) is
           ∙ placed_begun place (is_answered_stable job.call) ∙ none
@@ -417,36 +417,36 @@ module _ (old new : Side) (keeps : KeepsReadsOf old new)
       ios : (answer : Commit Outcome) → IsCommit old.core tx (planned_of done) done answer new.core
           → new.worker ≡ after_commit job done.reply answer base → IoGoes old new
       ios (commit.Committed receipt) core is =
-          keeps_io (ap (λ (b : Begun). b.io) (begun_then receipt.place is) ∙ sym no_io) core.leaves.fetches
-      ios (commit.Full back change) core is = keeps_io (ap (λ (s : State). s.begun.io) is ∙ sym no_io)
+          preserves_io (ap (λ (b : Begun). b.io) (begun_then receipt.place is) ∙ sym no_io) core.leaves.fetches
+      ios (commit.Full back change) core is = preserves_io (ap (λ (s : State). s.begun.io) is ∙ sym no_io)
           (λ block. ap (λ (c : CoreState). is_fetching c block) core.0.core)
-      ios (commit.Foreign back change) core is = keeps_io (ap (λ (s : State). s.begun.io) is ∙ sym no_io)
+      ios (commit.Foreign back change) core is = preserves_io (ap (λ (s : State). s.begun.io) is ∙ sym no_io)
           (λ block. ap (λ (c : CoreState). is_fetching c block) core.0.core)
-      ios (commit.NoMemory back change) core is = keeps_io (ap (λ (s : State). s.begun.io) is ∙ sym no_io)
+      ios (commit.NoMemory back change) core is = preserves_io (ap (λ (s : State). s.begun.io) is ∙ sym no_io)
           (λ block. ap (λ (c : CoreState). is_fetching c block) core.0.core)
-      ios (commit.Broken back change) core is = keeps_io (ap (λ (s : State). s.begun.io) is ∙ sym no_io)
+      ios (commit.Broken back change) core is = preserves_io (ap (λ (s : State). s.begun.io) is ∙ sym no_io)
           (λ block. ap (λ (c : CoreState). is_fetching c block) core.0.core)
-      ios (commit.Spent back change) core is = keeps_io (ap (λ (s : State). s.begun.io) is ∙ sym no_io)
+      ios (commit.Spent back change) core is = preserves_io (ap (λ (s : State). s.begun.io) is ∙ sym no_io)
           (λ block. ap (λ (c : CoreState). is_fetching c block) core.0.core)
 
   gives : (ok : Bool) (io : Fetch) (made : Step) → old.worker.begun.io ≡ Some io
       → HasGivenBack ok io old made new → LeavesOthers old new
   gives ok io made io_is has =
-      by_parts (λ t differs. kept t (keeps t (λ same. absurd (differs same))) ok has.leaves)
+      by_parts (λ t differs. is_preserved t (preserves t (λ same. absurd (differs same))) ok has.leaves)
       (stays_out (ap (λ (s : State). s.begun.tx) has.worker) (ap (λ (c : CoreState). c.out) has.only)
       (ap (λ (c : CoreState). c.begun) has.only))
       (gives_io io io_is (ap (λ (s : State). s.begun.io) has.worker) has.leaves.fetches)
     where
-      kept : (t : ℕ) → KeepsReads old.core new.core t → (ok : Bool)
+      is_preserved : (t : ℕ) → PreservesReads old.core new.core t → (ok : Bool)
           → Leaves new.core (taken_by old.core) (without_fetch io.block (is_fetching old.core))
-          (there_given ok io old.core) → KeepsTaken old.core new.core t
-      kept t kept_reads true leaves = by_fetched old.core new.core t kept_reads io.block io.content
+          (there_given ok io old.core) → PreservesTaken old.core new.core t
+      is_preserved t preserved_reads true leaves = by_fetched old.core new.core t preserved_reads io.block io.content
           (ap (λ (c : CoreState). c.out) has.only) leaves
-      kept t kept_reads false leaves = by_failed old.core new.core t kept_reads io.block
+      is_preserved t preserved_reads false leaves = by_failed old.core new.core t preserved_reads io.block
           (ap (λ (c : CoreState). c.out) has.only) leaves
 
   waits : (place : Seq) (made : Step) → Waits place old made new → LeavesOthers old new
-  waits place made has = by has.settled old.core.log.broken has.told
+  waits place made has = by has.settled old.core.log.broken has.is_reply_sent
     where
       of_state : (state : State) → state.begun ≡ old.worker.begun → new.worker ≡ state → LeavesOthers old new
       of_state state same is = same_core has.core (ap (λ (s : State). s.begun.tx) is ∙ ap (λ (b : Begun). b.tx) same)
@@ -458,17 +458,17 @@ module _ (old new : Side) (keeps : KeepsReadsOf old new)
       heard base same None is = absurd is
       heard base same (Some reply) is = of_state _ same is
 
-      by : (settled broken : Bool) → IsTold settled broken place old.worker new.worker → LeavesOthers old new
+      by : (settled broken : Bool) → IsReplySent settled broken place old.worker new.worker → LeavesOthers old new
       by true broken is = heard (without_reply old.worker) refl old.worker.work.reply is
       by false true is = heard (without_broken_reply old.worker) refl old.worker.work.broken_reply is
       by false false is = of_state old.worker refl is
 
   cases : Cases old new LeftSo
   cases = record {
-    idle = λ is no_tx no_io. same_core (ap (λ (s : Side). s.core) is) (ap (λ (s : Side). s.worker.begun.tx) is)
-        (ap (λ (s : Side). s.worker.begun.io) is);
-    reading = λ is no_tx no_io. same_core (ap (λ (s : Side). s.core) is) (ap (λ (s : Side). s.worker.begun.tx) is)
-        (ap (λ (s : Side). s.worker.begun.io) is);
+    idle = λ is no_tx no_io. same_core (ap (λ (s : WorkerAndCore). s.core) is) (ap (λ (s : WorkerAndCore). s.worker.begun.tx) is)
+        (ap (λ (s : WorkerAndCore). s.worker.begun.io) is);
+    reading = λ is no_tx no_io. same_core (ap (λ (s : WorkerAndCore). s.core) is) (ap (λ (s : WorkerAndCore). s.worker.begun.tx) is)
+        (ap (λ (s : WorkerAndCore). s.worker.begun.io) is);
     begun = λ job number job_is rules has no_tx no_io. begins job number has (no_tx refl) (no_io refl);
     not_begun = λ job why job_is rules none core worker no_tx no_io. same_core core
         (ap (λ (s : State). s.begun.tx) worker) (ap (λ (s : State). s.begun.io) worker);
@@ -511,16 +511,16 @@ pub leaves_core : (old new : State) (core : CoreState) → IfSome old.begun.tx (
     → IsFetchedBy core old.begun.io → new.begun.tx ≡ old.begun.tx
     → ((block : BlockNo) → IsFetchAt block new.begun.io → IsFetchAt block old.begun.io)
     → ((block : BlockNo) → IsFetchAt block old.begun.io → IsFetchAt block new.begun.io)
-    → IsFetchedBy core new.begun.io → LeavesOthers (side old core) (side new core)
+    → IsFetchedBy core new.begun.io → LeavesOthers (worker_and_core old core) (worker_and_core new core)
 leaves_core old new core own_out own_io tx_is to_old to_new fetched =
-    let others : (tx : ℕ) → (old.begun.tx ≡ Some tx → ⊥) → KeepsTaken core core tx =
-    λ tx differs. keeps_same core core tx refl in
-    let txs = tx_left (side old core) (side new core) others own_out own_io (stays_out tx_is refl refl) in record {
+    let others : (tx : ℕ) → (old.begun.tx ≡ Some tx → ⊥) → PreservesTaken core core tx =
+    λ tx differs. preserves_same core core tx refl in
+    let txs = tx_left (worker_and_core old core) (worker_and_core new core) others own_out own_io (stays_out tx_is refl refl) in record {
       others = others;
       out = txs.out;
       begun = txs.begun;
       number = txs.number;
-      pending = λ block is. elim (at_or_not (side old core) (side new core) others own_out own_io block old.begun.io) [
+      pending = λ block is. elim (at_or_not (worker_and_core old core) (worker_and_core new core) others own_out own_io block old.begun.io) [
         | inl at ↦ inl (to_new block at)
         | inr not_at ↦ inr (is, not_at)
       ];
@@ -530,9 +530,9 @@ leaves_core old new core own_out own_io tx_is to_old to_new fetched =
     }
 
 -- what is told of a worker changes nothing of what it leaves
-pub told_leaves : (old : Side) (state : State) (core : CoreState) → LeavesOthers old (side state core)
-    → LeavesOthers old (side (told state) core)
-told_leaves old state core left = record {
+pub reported_leaves : (old : WorkerAndCore) (state : State) (core : CoreState) → LeavesOthers old (worker_and_core state core)
+    → LeavesOthers old (worker_and_core (reported state) core)
+reported_leaves old state core left = record {
   others = left.others;
   out = left.out;
   begun = left.begun;

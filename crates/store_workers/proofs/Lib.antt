@@ -4,9 +4,9 @@ pub mod EventTells
 pub mod HeldAs
 pub mod HowFar
 pub mod LoneWorker
-pub mod Noted
+pub mod Traced
 pub mod PlansEnd
-pub mod StaysAlone
+pub mod StaysSingle
 pub mod StepKinds
 pub mod StepTells
 pub mod WorkCases
@@ -17,7 +17,8 @@ pub mod StillAsked
 pub mod SpelledOnce
 pub mod PlansStay
 pub mod LeavesOthers
-pub mod NotesAll
+pub mod TracesAll
 pub mod ShareCore
 pub mod Above
 pub mod Halved
+mod PreparedPlans

@@ -6,7 +6,7 @@ use Rattle.store_promise.specs.declared.events.Step.{Step}
 use Rattle.store_promise.specs.declared.events.Step.TheVariants as step
 use Rattle.txn.specs.Core.{CoreState}
 use Rattle.store_workers.specs.Seen.{seen_in}
-use Rattle.store_workers.specs.WorkerSteps.{EndsBy, HasCommitted, HasLacked, side, with_snap}
+use Rattle.store_workers.specs.WorkerSteps.{EndsBy, HasCommitted, HasLacked, worker_and_core, with_snap}
 use Rattle.store_workers.specs.declared.workers.parts.Begun.{Begun}
 use Rattle.store_workers.specs.declared.workers.parts.Job.{Job}
 use Rattle.store_workers.specs.declared.workers.parts.State.{State}
@@ -17,13 +17,13 @@ module _ (old planned : State) (taken : Begun) (seen : seen_in planned.work.plan
   abbrev pub worker : State
   worker = record (with_snap planned old) { begun = taken }
 
-  lacked : (made : Step) → HasLacked tx (side worker before) made (side new after)
-      → HasLacked tx (side old before) made (side new after)
+  lacked : (made : Step) → HasLacked tx (worker_and_core worker before) made (worker_and_core new after)
+      → HasLacked tx (worker_and_core old before) made (worker_and_core new after)
   lacked made is = record { made_is = is.made_is; core = is.core; worker = is.worker }
 
   committed : (made : Step) (found : Option Job)
-      → IsSomeAnd found (λ job. HasCommitted job tx done (side worker before) made (side new after))
-      → IsSomeAnd found (λ job. HasCommitted job tx done (side old before) made (side new after))
+      → IsSomeAnd found (λ job. HasCommitted job tx done (worker_and_core worker before) made (worker_and_core new after))
+      → IsSomeAnd found (λ job. HasCommitted job tx done (worker_and_core old before) made (worker_and_core new after))
   committed made None is = is
   committed made (Some job) is = record {
     answer = is.answer;
@@ -34,8 +34,8 @@ module _ (old planned : State) (taken : Begun) (seen : seen_in planned.work.plan
     worker = is.worker;
   }
 
-  pub ends : (made : Step) → EndsBy tx done (side worker before) made (side new after)
-      → EndsBy tx done (side old before) made (side new after)
+  pub ends : (made : Step) → EndsBy tx done (worker_and_core worker before) made (worker_and_core new after)
+      → EndsBy tx done (worker_and_core old before) made (worker_and_core new after)
   ends (step.Ended why) is = lacked (step.Ended why) is
   ends step.Called is = committed _ old.work.job is
   ends step.Replied is = committed _ old.work.job is

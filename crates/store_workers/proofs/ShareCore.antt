@@ -10,16 +10,16 @@ use Rattle.txn_law.specs.Core.{CoreState, IsOut}
 use Rattle.txn_law.specs.Fetch.{Fetch}
 use Rattle.txn_law.specs.Holds.{is_hold_of}
 use Rattle.txn_law.specs.Leaves.{is_fetching}
-use Rattle.txn_law.specs.Tidy.{AreTidy, IsOfOne}
-use Rattle.store_workers.specs.Beside.{IsFetchAt, IsFetchedBy, IsOneOf, LeavesOthers, NoneTakenBeyond}
-use Rattle.store_workers.specs.Beside.{Replaces, ShareCore}
-use Rattle.store_workers.specs.WorkerSteps.{Side}
+use Rattle.txn_law.specs.WellFormed.{IsWellFormed, IsOfOne}
+use Rattle.store_workers.specs.Unaffected.{IsFetchAt, IsFetchedBy, IsOneOf, LeavesOthers, NoneTakenBeyond}
+use Rattle.store_workers.specs.Unaffected.{Replaces, ShareCore}
+use Rattle.store_workers.specs.WorkerSteps.{WorkerAndCore}
 use Rattle.store_workers.specs.declared.workers.parts.State.{State}
 
 some_same : {X : Type 0} (x y : X) → Some x ≡ Some y → x ≡ y
 some_same x y same = cc
 
-module _ (old new : Side) (workers later : List State) (me : ℕ) (are : ShareCore old.core workers)
+module _ (old new : WorkerAndCore) (workers later : List State) (me : ℕ) (are : ShareCore old.core workers)
     (left : LeavesOthers old new) (list : Replaces workers me old.worker new.worker later) where
   -- a worker of the list then is this one, or another, which it was
   by_whom : (other : ℕ) (worker : State) → IsOneOf later other worker
@@ -42,7 +42,7 @@ module _ (old new : Side) (workers later : List State) (me : ℕ) (are : ShareCo
   not_mine : (other tx : ℕ) (worker : State) → (other ≡ me → ⊥) → IsOneOf workers other worker
       → worker.begun.tx ≡ Some tx → old.worker.begun.tx ≡ Some tx → ⊥
   not_mine other tx worker differs is theirs own =
-      differs (are.alone other me tx worker old.worker is list.was theirs own)
+      differs (are.one_owner other me tx worker old.worker is list.was theirs own)
 
   not_at : (other : ℕ) (block : BlockNo) (worker : State) → (other ≡ me → ⊥) → IsOneOf workers other worker
       → IsFetchAt block worker.begun.io → IsFetchAt block old.worker.begun.io → ⊥
@@ -114,9 +114,9 @@ module _ (old new : Side) (workers later : List State) (me : ℕ) (are : ShareCo
       still None is apart = tt
       still (Some io) is apart = left.stays io.block is (λ own. apart io.block refl own)
 
-  alone_then : (one other tx : ℕ) (a b : State) → IsOneOf later one a → IsOneOf later other b
+  one_owner_then : (one other tx : ℕ) (a b : State) → IsOneOf later one a → IsOneOf later other b
       → a.begun.tx ≡ Some tx → b.begun.tx ≡ Some tx → one ≡ other
-  alone_then one other tx a b a_is b_is a_tx b_tx = elim (by_whom one a a_is) [
+  one_owner_then one other tx a b a_is b_is a_tx b_tx = elim (by_whom one a a_is) [
     | inl mine ↦ elim (by_whom other b b_is) [
       | inl also ↦ mine.0 ∙ sym also.0
       | inr there ↦ absurd (own_tx other tx b there.0 there.1 b_tx
@@ -125,7 +125,7 @@ module _ (old new : Side) (workers later : List State) (me : ℕ) (are : ShareCo
     | inr here ↦ elim (by_whom other b b_is) [
       | inl mine ↦ absurd (own_tx one tx a here.0 here.1 a_tx
           (ap (λ (s : State). s.begun.tx) (sym mine.1) ∙ b_tx))
-      | inr there ↦ are.alone one other tx a b here.1 there.1 a_tx b_tx
+      | inr there ↦ are.one_owner one other tx a b here.1 there.1 a_tx b_tx
     ]
   ]
 
@@ -161,7 +161,7 @@ module _ (old new : Side) (workers later : List State) (me : ℕ) (are : ShareCo
   pub share_still : ShareCore new.core later
   share_still = record {
     out = out_then;
-    alone = alone_then;
+    one_owner = one_owner_then;
     begun = begun_then;
     pending = pending_then;
     fetched = fetched_then;
@@ -169,15 +169,15 @@ module _ (old new : Side) (workers later : List State) (me : ℕ) (are : ShareCo
   }
 
 -- nothing is taken in a transaction that isn't begun yet
-pub none_beyond : (core : CoreState) (workers : List State) → AreTidy core → ShareCore core workers
+pub none_beyond : (core : CoreState) (workers : List State) → IsWellFormed core → ShareCore core workers
     → NoneTakenBeyond core
-none_beyond core workers tidy are addr hold taken =
+none_beyond core workers well_formed are addr hold taken =
     let found = found_by (is_hold_of (core.begun + 1) addr) core.holds hold taken in
     let four = all_four (nat_eq hold.transaction (core.begun + 1)) (nat_eq hold.addr.block.0 addr.block.0)
     (nat_eq hold.addr.offset addr.offset) (nat_eq hold.addr.len addr.len) found.0 in
     let same = eqb-true hold.transaction (core.begun + 1) four.0 in
     let (number, worker, is, has) = are.out hold.transaction
-    (All-contains (IsOfOne core) core.holds hold tidy.owned found.1).0 in
+    (All-contains (IsOfOne core) core.holds hold well_formed.owned found.1).0 in
     let low = are.begun number hold.transaction worker is has in omega (arith, same, low)
 
 -- so they do where nothing of what is out and pending has changed
@@ -186,7 +186,7 @@ pub share_by : (old new : CoreState) (workers : List State) → new.out ≡ old.
     → ShareCore new workers
 share_by old new workers out begun fetches are = record {
   out = λ tx is. are.out tx (ap (λ (ts : List ℕ). list_any (λ other. nat_eq other tx) ts) (sym out) ∙ is);
-  alone = are.alone;
+  one_owner = are.one_owner;
   begun = λ number tx worker is has. let low = are.begun number tx worker is has in omega (arith, low, begun);
   pending = λ block is. are.pending block (sym (fetches block) ∙ is);
   fetched = λ number worker is. still worker.begun.io (are.fetched number worker is);

@@ -8,23 +8,23 @@ use Rattle.store_promise.specs.declared.answers.Verdict.{Verdict}
 use Rattle.store_promise.specs.declared.events.Step.{Step}
 use Rattle.store_promise.specs.declared.events.Step.TheVariants as step
 use Rattle.store_workers.specs.WorkerAnswers.{with_answer}
-use Rattle.store_workers.specs.WorkerSteps.{Begins, BeginsBy, EndsBy, HasBegun, HasCommitted, HasLacked, Side}
+use Rattle.store_workers.specs.WorkerSteps.{Begins, BeginsBy, EndsBy, HasBegun, HasCommitted, HasLacked, WorkerAndCore}
 use Rattle.store_workers.specs.declared.workers.parts.Job.{Job}
 
 -- a call is answered at once
-pub record IsTold (old new : Side) : Type 0 where
+pub record IsAnsweredAtOnce (old new : WorkerAndCore) : Type 0 where
   pub heard : Verdict
   pub core : new.core ≡ old.core
   pub worker : new.worker ≡ with_answer heard None old.worker
 
 -- a call begins a transaction, is told why none was begun, or needs none
-pub data Beginning (old : Side) (made : Step) (new : Side) : Type 0 where
+pub data Beginning (old : WorkerAndCore) (made : Step) (new : WorkerAndCore) : Type 0 where
   begun : (job : Job) (number : ℕ) → old.worker.work.job ≡ Some job → made ≡ step.Begun (Ok number)
       → HasBegun job old number new → Beginning old made new
-  refused : (why : BeginFault) → made ≡ step.Begun (Err why) → IsTold old new → Beginning old made new
-  replied : made ≡ step.Replied → IsTold old new → Beginning old made new
+  refused : (why : BeginFault) → made ≡ step.Begun (Err why) → IsAnsweredAtOnce old new → Beginning old made new
+  replied : made ≡ step.Replied → IsAnsweredAtOnce old new → Beginning old made new
 
-by_rules : (old new : Side) (made : Step) (job : Job) (served : Bool) → old.worker.work.job ≡ Some job
+by_rules : (old new : WorkerAndCore) (made : Step) (job : Job) (served : Bool) → old.worker.work.job ≡ Some job
     → BeginsBy served job old made new → Beginning old made new
 by_rules old new (step.Begun (Ok number)) job true is has = begun job number is refl has
 by_rules old new (step.Begun (Err why)) job true is has =
@@ -47,7 +47,7 @@ by_rules old new (step.InstIo a) job true is has = absurd has
 by_rules old new (step.InstDone a) job true is has = absurd has
 by_rules old new made job false is has = replied has.0 (record { heard = _; core = has.1; worker = has.2 })
 
-pub beginning : (old new : Side) (made : Step) → Begins old made new → Beginning old made new
+pub beginning : (old new : WorkerAndCore) (made : Step) → Begins old made new → Beginning old made new
 beginning old new made has = by old.worker.work.job refl has
   where
     by : (found : Option Job) → old.worker.work.job ≡ found
@@ -57,12 +57,12 @@ beginning old new made has = by old.worker.work.job refl has
     by (Some job) is has = by_rules old new made job (begins_transaction job.call) is has
 
 -- what a plan ended in is committed, or memory was refused before
-pub data Ending (tx : ℕ) (done : Outcome) (old : Side) (made : Step) (new : Side) : Type 0 where
+pub data Ending (tx : ℕ) (done : Outcome) (old : WorkerAndCore) (made : Step) (new : WorkerAndCore) : Type 0 where
   lacked : HasLacked tx old made new → Ending tx done old made new
   committed : (job : Job) → old.worker.work.job ≡ Some job → HasCommitted job tx done old made new
       → Ending tx done old made new
 
-module _ (old new : Side) (tx : ℕ) (done : Outcome) where
+module _ (old new : WorkerAndCore) (tx : ℕ) (done : Outcome) where
   of_job : (made : Step) → IsSomeAnd old.worker.work.job (λ job. HasCommitted job tx done old made new)
       → Ending tx done old made new
   of_job made has = by old.worker.work.job refl has

@@ -27,11 +27,11 @@ use Rattle.txn.specs.declared.outcomes.Commit.{Commit}
 use Rattle.txn.specs.declared.outcomes.Commit.TheVariants as commit
 use Rattle.txn.specs.declared.outcomes.Want.{Want}
 use Rattle.txn.specs.declared.outcomes.Want.TheVariants as want
-use Rattle.store_promise.specs.Aims.{is_barred}
-use Rattle.store_promise.specs.declared.aims.Aim.{Aim}
-use Rattle.store_promise.specs.declared.aims.Aim.TheVariants as aim
+use Rattle.store_promise.specs.LockRequests.{is_barred}
+use Rattle.store_promise.specs.declared.lock_requests.LockRequest.{LockRequest}
+use Rattle.store_promise.specs.declared.lock_requests.LockRequest.TheVariants as lock_request
 use Rattle.store_promise.specs.Progress.{Progress, Stage, is_idle}
-use Rattle.store_promise.specs.Progress as told
+use Rattle.store_promise.specs.Progress as run_progress
 use Rattle.store_promise.specs.Transcript.{Transcript}
 use Rattle.store_promise.specs.Verdicts.{HasVerdict, cause_of, refusal}
 use Rattle.store_promise.specs.declared.answers.CallAnswer.{CallAnswer}
@@ -46,25 +46,25 @@ use Rattle.store_promise.specs.declared.events.Step.{Step}
 use Rattle.store_promise.specs.declared.events.Step.TheVariants as step
 use Rattle.store_promise.specs.declared.transcript.Answer.{Answer}
 use Rattle.store_workers.proofs.HowFar.{goes_so_far, some_of, without_broken_reply, without_reply}
-use Rattle.store_workers.proofs.WorkCases.{Cases, IsWished, by_cases}
+use Rattle.store_workers.proofs.WorkCases.{Cases, IsRequested, by_cases}
 use Rattle.store_workers.specs.Asked.{Asking}
 use Rattle.store_workers.specs.Knowing.{Knowing, known_in, without_off}
 use Rattle.store_workers.specs.Seen.{seen_in}
 use Rattle.store_workers.specs.Stages.{IsJobIn, IsJobOf, IsWorkerAt, RunsIn, StandsAt, at_stage}
 use Rattle.store_workers.specs.Stages.{begun_of, entry_at, handed, progress_in, progress_of}
-use Rattle.store_workers.specs.Telling as telling
+use Rattle.store_workers.specs.RunReports as run_reports
 use Rattle.store_workers.specs.WorkTells.{HasReplies, IsAnswerOf, IsEntryOf, TellsAnswer}
 use Rattle.store_workers.specs.WorkTells.{TellsEntry, TellsStep}
 use Rattle.store_workers.specs.WorkTells.{entries_ready, with_ready}
 use Rattle.store_workers.specs.WorkerAnswers.{after_commit, asked_wanted, begun_claimed}
-use Rattle.store_workers.specs.WorkerAnswers.{begun_wanted, claim_wish}
+use Rattle.store_workers.specs.WorkerAnswers.{begun_wanted, claim_answer}
 use Rattle.store_workers.specs.WorkerAnswers.{committing_of, known_claimed, known_wanted, phase_claimed}
-use Rattle.store_workers.specs.WorkerAnswers.{phase_off, phase_wanted, told_of}
-use Rattle.store_workers.specs.WorkerAnswers.{wish_of, with_answer}
+use Rattle.store_workers.specs.WorkerAnswers.{phase_off, phase_wanted, answered_or_waiting}
+use Rattle.store_workers.specs.WorkerAnswers.{want_answer, with_answer}
 use Rattle.store_workers.specs.WorkerAnswers.{with_entry, with_tx}
 use Rattle.store_workers.specs.WorkerSteps.{GoesOn, HasBegun, HasClaimed, HasCommitted, HasGivenBack}
 use Rattle.store_workers.specs.WorkerSteps.{HasLacked, HasLeft}
-use Rattle.store_workers.specs.WorkerSteps.{HasRefused, HasWanted, IsNext, IsTold, Side, Waits}
+use Rattle.store_workers.specs.WorkerSteps.{HasRefused, HasWanted, IsNext, IsReplySent, WorkerAndCore, Waits}
 use Rattle.store_workers.specs.WorkerSteps.{given_step, none_begun}
 use Rattle.store_workers.specs.WorkerSteps.{numbered, phase_given, planned_of, with_snap}
 use Rattle.store_workers.specs.declared.workers.parts.Job.{Job}
@@ -116,7 +116,7 @@ has_job (Refused why) = true
 has_job Again = true
 has_job (Waiting place) = false
 
-not_idle : (phase : Phase) (job : Job) (found : Option Job) (begun : told.Begun) (asked : Asking)
+not_idle : (phase : Phase) (job : Job) (found : Option Job) (begun : run_progress.Begun) (asked : Asking)
     (knowing : Knowing) → found ≡ Some job
     → has_job phase ≡ true → is_idle (progress_in phase found begun asked knowing) ≡ false
 not_idle Idle job found begun asked knowing is busy = absurd (true≢false (sym busy))
@@ -139,9 +139,9 @@ not_idle Again job found begun asked knowing is busy =
 at_some : {X : Type 0} (P : X → Type 0) (found : Option X) (x : X) → found ≡ Some x → IsSomeAnd found P → P x
 at_some P found x is so = subst (λ o. IsSomeAnd o P) is so
 
-module _ (boot number : ℕ) (entries : List Entry) (old new : Side) (at : IsWorkerAt boot entries old.worker)
+module _ (boot number : ℕ) (entries : List Entry) (old new : WorkerAndCore) (at : IsWorkerAt boot entries old.worker)
     (booted : old.core.boot ≡ boot) (places : old.core.log.places ≡ length entries) where
-  abbrev old_begun : told.Begun
+  abbrev old_begun : run_progress.Begun
   old_begun = begun_of old.worker.begun.tx (seen_in old.worker.work.planner) old.worker.known
 
   -- how far the worker was, in this phase
@@ -153,7 +153,7 @@ module _ (boot number : ℕ) (entries : List Entry) (old new : Side) (at : IsWor
     pub entry : TellsEntry boot (length entries) (was phase) made state.work.entry
     pub answer : TellsAnswer (with_ready number entries state) (was phase) (progress_of state) made
         state.work.answer
-    pub stands : IsWorkerAt boot (with_ready number entries state) (telling.told state)
+    pub stands : IsWorkerAt boot (with_ready number entries state) (run_reports.reported state)
 
   abbrev LeavesIt : Phase → Option Step → Type 0
   LeavesIt phase made =
@@ -168,17 +168,17 @@ module _ (boot number : ℕ) (entries : List Entry) (old new : Side) (at : IsWor
   with_job phase job is = ap (λ j. progress_in phase j old_begun old.worker.asked old.worker.known) is
 
   -- no answer lies ready
-  none_told : (phase : Phase) (made : Option Step) (state : State) → state.work.answer ≡ None
+  step_without_answer : (phase : Phase) (made : Option Step) (state : State) → state.work.answer ≡ None
       → (not (is_idle (was phase)) && is_idle (progress_of state)) ≡ false
       → TellsAnswer (with_ready number entries state) (was phase) (progress_of state) made state.work.answer
-  none_told phase made state none goes = record {
+  step_without_answer phase made state none goes = record {
     ends = ap (λ (a : Option CallAnswer). is_some a) none ∙ sym goes;
     is_of = subst (λ a. IfSome a (IsAnswerOf (with_ready number entries state) (was phase) made)) (sym none) tt;
   }
 
   -- an answer does, and the worker is idle
   module _ (phase : Phase) (made : Step) (base : State) (heard : Verdict) (place : Option Seq) (job : Job)
-      (stage : Stage) (stage_is : was phase ≡ told.At (handed job) stage)
+      (stage : Stage) (stage_is : was phase ≡ run_progress.At (handed job) stage)
       (gives : (t : Transcript) (answer : Answer)
       → HasReplies t (with_ready number entries base) → answer.verdict ≡ heard
       → answer.place ≡ place → HasVerdict t job.call stage made answer) where
@@ -205,11 +205,11 @@ module _ (boot number : ℕ) (entries : List Entry) (old new : Side) (at : IsWor
   unbegun : (made : Step) (job : Job) (heard : Verdict) → old.worker.work.job ≡ Some job
       → TellsEntry boot (length entries) (was Called) (Some made) old.worker.work.entry
       → ((t : Transcript) (answer : Answer) → (answer.place ≡ None) × (answer.verdict ≡ heard)
-      → HasVerdict t job.call (told.Called (known_in old.worker.known)) made answer)
+      → HasVerdict t job.call (run_progress.Called (known_in old.worker.known)) made answer)
       → new.worker ≡ with_answer heard None old.worker → Leaves Called (Some made) new.worker
   unbegun made job heard job_is entry gives is =
       so Called (Some made) (with_answer heard None old.worker) is
-      (answers Called made old.worker heard None job (told.Called (known_in old.worker.known))
+      (answers Called made old.worker heard None job (run_progress.Called (known_in old.worker.known))
       (with_job Called job job_is)
       (λ t answer has v p. gives t answer (p, v)) entry)
 
@@ -223,11 +223,11 @@ module _ (boot number : ℕ) (entries : List Entry) (old new : Side) (at : IsWor
   goes_on : (phase : Phase) (made : Step) (state : State) (job : Job) → state.work.job ≡ Some job
       → has_job state.phase ≡ true → state.work.answer ≡ None
       → TellsEntry boot (length entries) (was phase) (Some made) state.work.entry
-      → StandsAt boot (with_ready number entries state) state.phase (telling.told state)
+      → StandsAt boot (with_ready number entries state) state.phase (run_reports.reported state)
       → Leaves phase (Some made) state
   goes_on phase made state job job_is busy answer entry stands = record {
     entry = entry;
-    answer = none_told phase (Some made) state answer
+    answer = step_without_answer phase (Some made) state answer
         (ap (λ b. not (is_idle (was phase)) && b)
         (not_idle state.phase job state.work.job _ state.asked state.known job_is busy)
         ∙ and_false (not (is_idle (was phase))));
@@ -267,67 +267,67 @@ module _ (boot number : ℕ) (entries : List Entry) (old new : Side) (at : IsWor
   }
 
   -- who is kept off has its call still
-  off_job : (wished : Aim) → has_job (phase_off wished old.worker.known) ≡ true
-  off_job wished = by (is_barred wished old.worker.known.taken)
+  off_job : (request : LockRequest) → has_job (phase_off request old.worker.known) ≡ true
+  off_job request = by (is_barred request old.worker.known.taken)
     where
       by : (above : Bool) → has_job (if above then Again else Planning) ≡ true
       by true = refl
       by false = refl
 
-  off_stands : (wished : Aim) (state : State) → RunsIn boot state
-      → StandsAt boot (with_ready number entries state) (phase_off wished old.worker.known) (telling.told state)
-  off_stands wished state runs = by (is_barred wished old.worker.known.taken)
+  off_stands : (request : LockRequest) (state : State) → RunsIn boot state
+      → StandsAt boot (with_ready number entries state) (phase_off request old.worker.known) (run_reports.reported state)
+  off_stands request state runs = by (is_barred request old.worker.known.taken)
     where
       by : (above : Bool) → StandsAt boot (with_ready number entries state) (if above then Again else Planning)
-          (telling.told state)
+          (run_reports.reported state)
       by true = runs
       by false = runs
 
   wants : (tx : ℕ) (addr : Addr) (mode : Mode) (made : Step) → old.worker.begun.tx ≡ Some tx
-      → IsWished old.worker (aim.Object addr mode) (plan.Need addr mode)
+      → IsRequested old.worker (lock_request.Object addr mode) (plan.Need addr mode)
       → (has : HasWanted tx addr mode old made new)
-      → LeavesIt Planning (Some (step.Wanted addr mode (wish_of has.answer)))
+      → LeavesIt Planning (Some (step.Wanted addr mode (want_answer has.answer)))
   wants tx addr mode made tx_is next has phase_is stands = so Planning _ _ has.worker (by has.answer has.core)
     where
       left : (answer : Want) → has_job (phase_wanted addr mode answer old.worker.known) ≡ true
           → StandsAt boot (with_ready number entries (once_wanted addr mode answer))
-          (phase_wanted addr mode answer old.worker.known) (telling.told (once_wanted addr mode answer))
-          → Leaves Planning (Some (step.Wanted addr mode (wish_of answer))) (once_wanted addr mode answer)
+          (phase_wanted addr mode answer old.worker.known) (run_reports.reported (once_wanted addr mode answer))
+          → Leaves Planning (Some (step.Wanted addr mode (want_answer answer))) (once_wanted addr mode answer)
       left answer busy stands_then =
-          goes_on Planning (step.Wanted addr mode (wish_of answer)) (once_wanted addr mode answer)
+          goes_on Planning (step.Wanted addr mode (want_answer answer)) (once_wanted addr mode answer)
           next.job next.job_is busy at.answer at.entry stands_then
 
       by : (answer : Want) → IsWanted old.core tx addr mode answer new.core
-          → Leaves Planning (Some (step.Wanted addr mode (wish_of answer))) (once_wanted addr mode answer)
+          → Leaves Planning (Some (step.Wanted addr mode (want_answer answer))) (once_wanted addr mode answer)
       by (want.Held back bytes) is = left (want.Held back bytes) refl (runs tx back tx_is is.0 stands)
       by (want.Fetch back io) is = left (want.Fetch back io) refl (runs tx back tx_is is.0 stands, is.2.block)
-      by (want.Busy back) is = left (want.Busy back) (off_job (aim.Object addr mode))
-          (off_stands (aim.Object addr mode) (once_wanted addr mode (want.Busy back)) (runs tx back tx_is is.0 stands))
-      by (want.Loading back) is = left (want.Loading back) (off_job (aim.Object addr mode))
-          (off_stands (aim.Object addr mode) (once_wanted addr mode (want.Loading back)) (runs tx back tx_is is.0 stands))
+      by (want.Busy back) is = left (want.Busy back) (off_job (lock_request.Object addr mode))
+          (off_stands (lock_request.Object addr mode) (once_wanted addr mode (want.Busy back)) (runs tx back tx_is is.0 stands))
+      by (want.Loading back) is = left (want.Loading back) (off_job (lock_request.Object addr mode))
+          (off_stands (lock_request.Object addr mode) (once_wanted addr mode (want.Loading back)) (runs tx back tx_is is.0 stands))
       by (want.Outside back) is = left (want.Outside back) refl (runs tx back tx_is is.0 stands)
       by (want.NoMemory back) is = left (want.NoMemory back) refl (runs tx back tx_is is.0 stands)
 
   claims : (tx : ℕ) (block : BlockNo) (made : Step) → old.worker.begun.tx ≡ Some tx
-      → IsWished old.worker (aim.Claim block) (plan.Claim block) → (has : HasClaimed tx block old made new)
-      → LeavesIt Planning (Some (step.Claimed block (claim_wish has.answer)))
+      → IsRequested old.worker (lock_request.Claim block) (plan.Claim block) → (has : HasClaimed tx block old made new)
+      → LeavesIt Planning (Some (step.Claimed block (claim_answer has.answer)))
   claims tx block made tx_is next has phase_is stands = so Planning _ _ has.worker (by has.answer has.core.2)
     where
       left : (answer : Claim) → has_job (phase_claimed block answer old.worker.known) ≡ true
           → StandsAt boot (with_ready number entries (once_claimed block answer))
-          (phase_claimed block answer old.worker.known) (telling.told (once_claimed block answer))
-          → Leaves Planning (Some (step.Claimed block (claim_wish answer))) (once_claimed block answer)
+          (phase_claimed block answer old.worker.known) (run_reports.reported (once_claimed block answer))
+          → Leaves Planning (Some (step.Claimed block (claim_answer answer))) (once_claimed block answer)
       left answer busy stands_then =
-          goes_on Planning (step.Claimed block (claim_wish answer)) (once_claimed block answer) next.job
+          goes_on Planning (step.Claimed block (claim_answer answer)) (once_claimed block answer) next.job
           next.job_is busy at.answer at.entry stands_then
 
       by : (answer : Claim) → IsClaimed old.core tx has.core.0 answer new.core
-          → Leaves Planning (Some (step.Claimed block (claim_wish answer))) (once_claimed block answer)
+          → Leaves Planning (Some (step.Claimed block (claim_answer answer))) (once_claimed block answer)
       by (claim.Held back) is = left (claim.Held back) refl (runs tx back tx_is is.0 stands)
-      by (claim.Busy back) is = left (claim.Busy back) (off_job (aim.Claim block))
-          (off_stands (aim.Claim block) (once_claimed block (claim.Busy back)) (runs tx back tx_is is.0 stands))
-      by (claim.Loading back) is = left (claim.Loading back) (off_job (aim.Claim block))
-          (off_stands (aim.Claim block) (once_claimed block (claim.Loading back)) (runs tx back tx_is is.0 stands))
+      by (claim.Busy back) is = left (claim.Busy back) (off_job (lock_request.Claim block))
+          (off_stands (lock_request.Claim block) (once_claimed block (claim.Busy back)) (runs tx back tx_is is.0 stands))
+      by (claim.Loading back) is = left (claim.Loading back) (off_job (lock_request.Claim block))
+          (off_stands (lock_request.Claim block) (once_claimed block (claim.Loading back)) (runs tx back tx_is is.0 stands))
       by (claim.Outside back) is = left (claim.Outside back) refl (runs tx back tx_is is.0 stands)
       by (claim.NoMemory back) is = left (claim.NoMemory back) refl (runs tx back tx_is is.0 stands)
 
@@ -338,7 +338,7 @@ module _ (boot number : ℕ) (entries : List Entry) (old new : Side) (at : IsWor
       so Planning _ _ has.worker
       (answers Planning (step.Ended ending.NoMemory)
       (record (with_snap new.worker old.worker) { begun = none_begun })
-      verdict.NoMemory None job (told.Planning old_begun) (with_job Planning job job_is)
+      verdict.NoMemory None job (run_progress.Planning old_begun) (with_job Planning job job_is)
       (λ t answer has v p. (p, v)) at.entry)
 
   module _ (job : Job) (tx : ℕ) (done : Outcome) (added : List BlockNo) (tx_is : old.worker.begun.tx ≡ Some tx)
@@ -372,11 +372,11 @@ module _ (boot number : ℕ) (entries : List Entry) (old new : Side) (at : IsWor
 
       placed : (stable : Bool) → is_answered_stable job.call ≡ stable
           → Leaves Planning (Some made_then) (with_entry job done.reply
-          (told_of stable job done.reply place planned))
+          (answered_or_waiting stable job done.reply place planned))
       placed true stable = record {
         entry = (next, is_entry);
-        answer = none_told Planning (Some made_then)
-            (with_entry job done.reply (told_of true job done.reply place planned)) at.answer
+        answer = step_without_answer Planning (Some made_then)
+            (with_entry job done.reply (answered_or_waiting true job done.reply place planned)) at.answer
             (and_false (not (is_idle (was Planning))));
         stands = record {
           entry = refl;
@@ -399,7 +399,7 @@ module _ (boot number : ℕ) (entries : List Entry) (old new : Side) (at : IsWor
           ends = sym (ap (λ p. not (is_idle p) && true) (with_job Planning job job_is));
           is_of = record {
             job = handed job;
-            stage = told.Planning old_begun;
+            stage = run_progress.Planning old_begun;
             so_far = with_job Planning job job_is;
             step = made_then;
             made_is = refl;
@@ -409,7 +409,7 @@ module _ (boot number : ℕ) (entries : List Entry) (old new : Side) (at : IsWor
                   entry = c;
                   is_entry = c_is;
                   placed = p;
-                  told = v ∙ ap (λ (r : Reply). verdict.Reply r) (sym reply);
+                  is_replied = v ∙ ap (λ (r : Reply). verdict.Reply r) (sym reply);
                 };
           };
         };
@@ -420,7 +420,7 @@ module _ (boot number : ℕ) (entries : List Entry) (old new : Side) (at : IsWor
         → TellsEntry boot (length entries) (was Planning) (Some made) old.worker.work.entry
         → (RunsIn boot (with_tx back phase planned)
         → StandsAt boot (with_ready number entries (with_tx back phase planned)) phase
-        (telling.told (with_tx back phase planned)))
+        (run_reports.reported (with_tx back phase planned)))
         → Leaves Planning (Some made) (with_tx back phase planned)
     back_in back made phase back_is busy entry stands_then =
         goes_on Planning made (with_tx back phase planned) job job_is busy at.answer entry
@@ -483,7 +483,7 @@ module _ (boot number : ℕ) (entries : List Entry) (old new : Side) (at : IsWor
   refuses why job tx made job_is has phase_is stands =
       so (Refused why) _ _ has.worker
       (answers (Refused why) (step.Ended ending.Refused) (record old.worker { begun = none_begun })
-      (refusal job.call why) None job (told.Refused old_begun why)
+      (refusal job.call why) None job (run_progress.Refused old_begun why)
       (with_job (Refused why) job job_is)
       (λ t answer has v p. (p, v)) at.entry)
 
@@ -496,73 +496,73 @@ module _ (boot number : ℕ) (entries : List Entry) (old new : Side) (at : IsWor
 
   waits : (place : Seq) (made : Step) → (has : Waits place old made new)
       → LeavesIt (Waiting place) (Some (step.Stable place has.settled))
-  waits place made has phase_is kept = by has.settled old.core.log.broken has.told
+  waits place made has phase_is is_preserved = by has.settled old.core.log.broken has.is_reply_sent
     where
-      stage_is : was (Waiting place) ≡ told.At (handed kept.job) (told.Waiting place.0)
-      stage_is = ap (λ j. at_stage j (told.Waiting place.0)) kept.job_is
+      stage_is : was (Waiting place) ≡ run_progress.At (handed is_preserved.job) (run_progress.Waiting place.0)
+      stage_is = ap (λ j. at_stage j (run_progress.Waiting place.0)) is_preserved.job_is
 
-      reply_told : IsSomeAnd old.worker.work.reply (λ reply. new.worker
+      reply_is_sent : IsSomeAnd old.worker.work.reply (λ reply. new.worker
           ≡ with_answer (verdict.Reply reply) (Some place) (without_reply old.worker))
           → Leaves (Waiting place) (Some (step.Stable place true)) new.worker
-      reply_told is = so (Waiting place) _ _ (at_some (λ (reply : Reply). new.worker
+      reply_is_sent is = so (Waiting place) _ _ (at_some (λ (reply : Reply). new.worker
           ≡ with_answer (verdict.Reply reply) (Some place) (without_reply old.worker)) old.worker.work.reply
-          kept.entry.reply kept.reply is)
+          is_preserved.entry.reply is_preserved.reply is)
           (answers (Waiting place) (step.Stable place true) (without_reply old.worker)
-          (verdict.Reply kept.entry.reply) (Some place) kept.job (told.Waiting place.0) stage_is
+          (verdict.Reply is_preserved.entry.reply) (Some place) is_preserved.job (run_progress.Waiting place.0) stage_is
           (λ t answer has v p.
-          let (c, c_is, reply) = has place.0 kept.entry (stays_at entries _ place.0 kept.entry kept.entry_is) in
+          let (c, c_is, reply) = has place.0 is_preserved.entry (stays_at entries _ place.0 is_preserved.entry is_preserved.entry_is) in
           record {
             entry = c;
             is_entry = c_is;
             placed = p;
-            told = v ∙ ap (λ (r : Reply). verdict.Reply r) (sym reply);
+            is_replied = v ∙ ap (λ (r : Reply). verdict.Reply r) (sym reply);
           }) at.entry)
 
-      broken_told : IsSomeAnd old.worker.work.broken_reply (λ reply. new.worker
+      broken_is_sent : IsSomeAnd old.worker.work.broken_reply (λ reply. new.worker
           ≡ with_answer (verdict.Reply reply) (Some place) (without_broken_reply old.worker))
           → Leaves (Waiting place) (Some (step.Stable place false)) new.worker
-      broken_told is = so (Waiting place) _ _ (at_some (λ (reply : Reply). new.worker
+      broken_is_sent is = so (Waiting place) _ _ (at_some (λ (reply : Reply). new.worker
           ≡ with_answer (verdict.Reply reply) (Some place) (without_broken_reply old.worker))
-          old.worker.work.broken_reply (refused status.Io kept.job.call) kept.broken_reply is)
+          old.worker.work.broken_reply (refused status.Io is_preserved.job.call) is_preserved.broken_reply is)
           (answers (Waiting place) (step.Stable place false) (without_broken_reply old.worker)
-          (verdict.Reply (refused status.Io kept.job.call)) (Some place) kept.job
-          (told.Waiting place.0) stage_is (λ t answer has v p. (p, v)) at.entry)
+          (verdict.Reply (refused status.Io is_preserved.job.call)) (Some place) is_preserved.job
+          (run_progress.Waiting place.0) stage_is (λ t answer has v p. (p, v)) at.entry)
 
       still : new.worker ≡ old.worker → Leaves (Waiting place) (Some (step.Stable place false)) new.worker
       still same = so (Waiting place) _ old.worker same (record {
         entry = at.entry;
-        answer = none_told (Waiting place) (Some (step.Stable place false)) old.worker at.answer
+        answer = step_without_answer (Waiting place) (Some (step.Stable place false)) old.worker at.answer
             (ap (λ b. not (is_idle (was (Waiting place))) && b)
             (ap (λ p. is_idle (was p)) phase_is ∙ ap is_idle stage_is)
             ∙ and_false (not (is_idle (was (Waiting place)))));
         stands = record {
           entry = refl;
           answer = refl;
-          stands = subst (λ p. StandsAt boot (with_ready number entries old.worker) p (telling.told old.worker))
+          stands = subst (λ p. StandsAt boot (with_ready number entries old.worker) p (run_reports.reported old.worker))
               (sym phase_is) (record {
-                job = kept.job;
-                job_is = kept.job_is;
-                entry = kept.entry;
-                entry_is = stays_at entries _ place.0 kept.entry kept.entry_is;
-                call = kept.call;
-                stable = kept.stable;
-                reply = kept.reply;
-                broken_reply = kept.broken_reply;
+                job = is_preserved.job;
+                job_is = is_preserved.job_is;
+                entry = is_preserved.entry;
+                entry_is = stays_at entries _ place.0 is_preserved.entry is_preserved.entry_is;
+                call = is_preserved.call;
+                stable = is_preserved.stable;
+                reply = is_preserved.reply;
+                broken_reply = is_preserved.broken_reply;
               });
         };
       })
 
-      by : (settled broken : Bool) → IsTold settled broken place old.worker new.worker
+      by : (settled broken : Bool) → IsReplySent settled broken place old.worker new.worker
           → Leaves (Waiting place) (Some (step.Stable place settled)) new.worker
-      by true broken is = reply_told is
-      by false true is = broken_told is
+      by true broken is = reply_is_sent is
+      by false true is = broken_is_sent is
       by false false same = still same
 
   -- no step
   rests : (phase : Phase) → new ≡ old → LeavesIt phase None
-  rests phase same phase_is stands = so phase None old.worker (ap (λ (s : Side). s.worker) same) (record {
+  rests phase same phase_is stands = so phase None old.worker (ap (λ (s : WorkerAndCore). s.worker) same) (record {
     entry = at.entry;
-    answer = none_told phase None old.worker at.answer
+    answer = step_without_answer phase None old.worker at.answer
         (ap (λ p. not (is_idle (was phase)) && is_idle (was p)) phase_is ∙ both (is_idle (was phase)));
     stands = record {
       entry = refl;
@@ -576,7 +576,7 @@ module _ (boot number : ℕ) (entries : List Entry) (old new : Side) (at : IsWor
       both false = refl
 
       longer : (p : Phase) → StandsAt boot entries p old.worker
-          → StandsAt boot (with_ready number entries old.worker) p (telling.told old.worker)
+          → StandsAt boot (with_ready number entries old.worker) p (run_reports.reported old.worker)
       longer Idle is = tt
       longer Called is = is
       longer Planning is = is

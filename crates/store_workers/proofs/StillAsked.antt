@@ -10,23 +10,23 @@ use Rattle.store_promise.specs.declared.answers.Verdict.TheVariants as verdict
 use Rattle.store_promise.specs.declared.events.Step.{Step}
 use Rattle.store_workers.specs.Stages.{HasSoundJob, IsJobOf}
 use Rattle.store_workers.specs.WorkerAnswers.{after_commit, with_answer}
-use Rattle.store_workers.specs.WorkerSteps.{GoesOn, IsTold, Side, none_begun, numbered, with_snap}
+use Rattle.store_workers.specs.WorkerSteps.{GoesOn, IsReplySent, WorkerAndCore, none_begun, numbered, with_snap}
 use Rattle.store_workers.specs.declared.workers.parts.Job.{Job}
 use Rattle.store_workers.specs.declared.workers.parts.Phase.{Phase}
 use Rattle.store_workers.specs.declared.workers.parts.State.{State}
 use Rattle.store_workers.proofs.WorkCases.{Cases, by_cases}
 
 -- whoever waits has the call that it had
-told_job : (place : Seq) (settled broken : Bool) (old new : State) → IsTold settled broken place old new
+job_stays : (place : Seq) (settled broken : Bool) (old new : State) → IsReplySent settled broken place old new
     → new.work.job ≡ old.work.job
-told_job place true broken old new has = by old.work.reply has
+job_stays place true broken old new has = by old.work.reply has
   where
     by : (found : Option Reply) → IsSomeAnd found (λ reply. new
         ≡ with_answer (verdict.Reply reply) (Some place) (record old { work = record old.work { reply = None } }))
         → new.work.job ≡ old.work.job
     by None has = absurd has
     by (Some reply) has = ap (λ (s : State). s.work.job) has
-told_job place false true old new has = by old.work.broken_reply has
+job_stays place false true old new has = by old.work.broken_reply has
   where
     by : (found : Option Reply) → IsSomeAnd found (λ reply. new
         ≡ with_answer (verdict.Reply reply) (Some place)
@@ -34,9 +34,9 @@ told_job place false true old new has = by old.work.broken_reply has
         → new.work.job ≡ old.work.job
     by None has = absurd has
     by (Some reply) has = ap (λ (s : State). s.work.job) has
-told_job place false false old new has = ap (λ (s : State). s.work.job) has
+job_stays place false false old new has = ap (λ (s : State). s.work.job) has
 
-module _ (old new : Side) (asked : HasSoundJob old.worker) where
+module _ (old new : WorkerAndCore) (asked : HasSoundJob old.worker) where
   has_job : (job : Option Job) → new.worker.work.job ≡ job → IfSome job IsJobOf → HasSoundJob new.worker
   has_job job is sound = subst (λ (j : Option Job). IfSome j IsJobOf) (sym is) sound
 
@@ -61,8 +61,8 @@ module _ (old new : Side) (asked : HasSoundJob old.worker) where
 
   cases : Cases old new (λ phase made. HasSoundJob new.worker)
   cases = record {
-    idle = λ is. same (ap (λ (s : Side). s.worker.work.job) is);
-    reading = λ is. same (ap (λ (s : Side). s.worker.work.job) is);
+    idle = λ is. same (ap (λ (s : WorkerAndCore). s.worker.work.job) is);
+    reading = λ is. same (ap (λ (s : WorkerAndCore). s.worker.work.job) is);
     begun = λ job number job_is served has. has_job (Some (numbered old.core.boot number job))
         (ap (λ (s : State). s.work.job) has.worker)
         (subst (λ (j : Option Job). IfSome j IsJobOf) job_is asked);
@@ -76,7 +76,7 @@ module _ (old new : Side) (asked : HasSoundJob old.worker) where
     given = λ ok io made io_is has. by_worker _ has.worker refl;
     refused = λ why job tx made job_is tx_is has. by_worker _ has.worker refl;
     left = λ tx made tx_is has. by_worker _ has.worker refl;
-    waited = λ place made has. same (told_job place has.settled old.core.log.broken old.worker new.worker has.told);
+    waited = λ place made has. same (job_stays place has.settled old.core.log.broken old.worker new.worker has.is_reply_sent);
   }
 
   pub still_asked : (phase : Phase) (made : Option Step) → GoesOn phase old made new → HasSoundJob new.worker

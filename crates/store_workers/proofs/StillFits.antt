@@ -24,12 +24,12 @@ use Rattle.circ.specs.declared.log.outcomes.Seq.{Seq}
 use Rattle.store_promise.specs.declared.answers.Verdict.TheVariants as verdict
 use Rattle.store_promise.specs.declared.events.Step.{Step}
 use Rattle.store_images.specs.Counts.{SameFrame}
-use Rattle.store_workers.specs.Alone.{IsOutAlone}
+use Rattle.store_workers.specs.Single.{IsSingleOut}
 use Rattle.store_workers.specs.Phases.{has_transaction}
 use Rattle.store_workers.specs.Worker.{IsCoreOf}
-use Rattle.store_workers.specs.WorkerAnswers.{after_commit, begun_claimed, begun_wanted, told_of, with_answer}
+use Rattle.store_workers.specs.WorkerAnswers.{after_commit, begun_claimed, begun_wanted, answered_or_waiting, with_answer}
 use Rattle.store_workers.specs.WorkerAnswers.{with_entry}
-use Rattle.store_workers.specs.WorkerSteps.{GoesOn, HasAborted, IsTold, Side, none_begun, planned_of, with_snap}
+use Rattle.store_workers.specs.WorkerSteps.{GoesOn, HasAborted, IsReplySent, WorkerAndCore, none_begun, planned_of, with_snap}
 use Rattle.store_workers.specs.declared.workers.parts.Begun.{Begun}
 use Rattle.store_workers.specs.declared.workers.parts.Job.{Job}
 use Rattle.store_workers.specs.declared.workers.parts.Phase.{Phase}
@@ -41,7 +41,7 @@ use Rattle.store_workers.proofs.WorkCases.{Cases, by_cases}
 
 -- it begins a transaction, goes on in one with a fetch or without, ends it, gives its fetch back, or leaves what
 -- there was
-data Turn (old new : Side) (phase : Phase) : Type 0 where
+data Turn (old new : WorkerAndCore) (phase : Phase) : Type 0 where
   rests : new.worker.begun ≡ old.worker.begun → new.core.out ≡ old.core.out → Turn old new phase
   begins : (number : ℕ) → phase ≡ Called → new.worker.begun ≡ record { tx = Some number; io = None }
       → new.core.out ≡ number ∷ old.core.out → Turn old new phase
@@ -53,16 +53,16 @@ data Turn (old new : Side) (phase : Phase) : Type 0 where
       → new.core.out ≡ without tx old.core.out → Turn old new phase
 
 -- whoever waits has begun what it had
-told_begun : (place : Seq) (settled broken : Bool) (old new : State) → IsTold settled broken place old new
+begun_stays : (place : Seq) (settled broken : Bool) (old new : State) → IsReplySent settled broken place old new
     → new.begun ≡ old.begun
-told_begun place true broken old new has = by old.work.reply has
+begun_stays place true broken old new has = by old.work.reply has
   where
     by : (found : Option Reply) → IsSomeAnd found (λ reply. new
         ≡ with_answer (verdict.Reply reply) (Some place) (record old { work = record old.work { reply = None } }))
         → new.begun ≡ old.begun
     by None has = absurd has
     by (Some reply) has = ap (λ (s : State). s.begun) has
-told_begun place false true old new has = by old.work.broken_reply has
+begun_stays place false true old new has = by old.work.broken_reply has
   where
     by : (found : Option Reply) → IsSomeAnd found (λ reply. new
         ≡ with_answer (verdict.Reply reply) (Some place)
@@ -70,15 +70,15 @@ told_begun place false true old new has = by old.work.broken_reply has
         → new.begun ≡ old.begun
     by None has = absurd has
     by (Some reply) has = ap (λ (s : State). s.begun) has
-told_begun place false false old new has = ap (λ (s : State). s.begun) has
+begun_stays place false false old new has = ap (λ (s : State). s.begun) has
 
 -- and so has one whose procedure was committed
 placed_begun : (stable : Bool) (job : Job) (reply : Reply) (place : Seq) (state : State)
-    → (with_entry job reply (told_of stable job reply place state)).begun ≡ state.begun
+    → (with_entry job reply (answered_or_waiting stable job reply place state)).begun ≡ state.begun
 placed_begun true job reply place state = refl
 placed_begun false job reply place state = refl
 
-module _ (old new : Side) (phase : Phase) where
+module _ (old new : WorkerAndCore) (phase : Phase) where
   out_of : (core : CoreState) → new.core ≡ core → new.core.out ≡ core.out
   out_of core is = ap (λ (c : CoreState). c.out) is
 
@@ -133,10 +133,10 @@ module _ (old new : Side) (phase : Phase) where
       → new.worker.begun ≡ none_begun → Turn old new phase
   aborts tx tx_is has begun = ends tx tx_is begun (out_of _ has.only)
 
-turns : (old new : Side) → Cases old new (λ phase made. Turn old new phase)
+turns : (old new : WorkerAndCore) → Cases old new (λ phase made. Turn old new phase)
 turns old new = record {
-  idle = λ is. rests (ap (λ (s : Side). s.worker.begun) is) (ap (λ (s : Side). s.core.out) is);
-  reading = λ is. rests (ap (λ (s : Side). s.worker.begun) is) (ap (λ (s : Side). s.core.out) is);
+  idle = λ is. rests (ap (λ (s : WorkerAndCore). s.worker.begun) is) (ap (λ (s : WorkerAndCore). s.core.out) is);
+  reading = λ is. rests (ap (λ (s : WorkerAndCore). s.worker.begun) is) (ap (λ (s : WorkerAndCore). s.core.out) is);
   begun = λ job number job_is rules has. begins number refl (ap (λ (s : State). s.begun) has.worker)
       (ap (λ (c : CoreState). c.out) has.core ∙ ap (λ (n : ℕ). n ∷ old.core.out) (sym has.next));
   not_begun = λ job why job_is rules none core worker. rests (ap (λ (s : State). s.begun) worker)
@@ -157,17 +157,17 @@ turns old new = record {
   refused = λ why job tx made job_is tx_is has. aborts old new (Refused why) tx tx_is has.core
       (ap (λ (s : State). s.begun) has.worker);
   left = λ tx made tx_is has. aborts old new Again tx tx_is has.core (ap (λ (s : State). s.begun) has.worker);
-  waited = λ place made has. rests (told_begun place has.settled old.core.log.broken old.worker new.worker
-      has.told) (ap (λ (c : CoreState). c.out) has.core);
+  waited = λ place made has. rests (begun_stays place has.settled old.core.log.broken old.worker new.worker
+      has.is_reply_sent) (ap (λ (c : CoreState). c.out) has.core);
 }
 
 -- what any step makes
-turn_of : (old new : Side) (phase : Phase) (made : Option Step) → GoesOn phase old made new → Turn old new phase
+turn_of : (old new : WorkerAndCore) (phase : Phase) (made : Option Step) → GoesOn phase old made new → Turn old new phase
 turn_of old new = by_cases old new (λ phase made. Turn old new phase) (turns old new)
 
 -- ---- the core fits it still
 
-module _ (old new : Side) (frame : SameFrame old.core new.core) (fits : IsCoreOf old.worker old.core) where
+module _ (old new : WorkerAndCore) (frame : SameFrame old.core new.core) (fits : IsCoreOf old.worker old.core) where
   by_parts : (begun : Begun) → new.worker.begun ≡ begun → IfSome begun.tx (IsOut new.core)
       → IfSome begun.io (λ io. io.block.0 < old.core.log.blocks) → IsCoreOf new.worker new.core
   by_parts begun is out reads = record {
@@ -209,22 +209,22 @@ no_tx : (tx : Option ℕ) → is_some tx ≡ false → tx ≡ None
 no_tx None none = refl
 no_tx (Some tx) some = absurd (true≢false some)
 
-module _ (old new : Side) (phase : Phase) (out : is_some old.worker.begun.tx ≡ has_transaction phase)
-    (alone : IsOutAlone old.worker old.core) where
-  alone_with : (begun : Begun) → new.worker.begun ≡ begun → new.core.out ≡ option_to_list begun.tx
-      → IsOutAlone new.worker new.core
-  alone_with begun is out = out ∙ sym (ap (λ (b : Begun). option_to_list b.tx) is)
+module _ (old new : WorkerAndCore) (phase : Phase) (out : is_some old.worker.begun.tx ≡ has_transaction phase)
+    (single_out : IsSingleOut old.worker old.core) where
+  single_with : (begun : Begun) → new.worker.begun ≡ begun → new.core.out ≡ option_to_list begun.tx
+      → IsSingleOut new.worker new.core
+  single_with begun is out = out ∙ sym (ap (λ (b : Begun). option_to_list b.tx) is)
 
-  alone_turn : Turn old new phase → IsOutAlone new.worker new.core
-  alone_turn (rests begun now) = alone_with _ begun (now ∙ alone)
-  alone_turn (begins number at begun now) = alone_with _ begun
-      (now ∙ ap (λ (o : List ℕ). number ∷ o) (alone ∙ ap (λ (o : Option ℕ). option_to_list o)
+  single_turn : Turn old new phase → IsSingleOut new.worker new.core
+  single_turn (rests begun now) = single_with _ begun (now ∙ single_out)
+  single_turn (begins number at begun now) = single_with _ begun
+      (now ∙ ap (λ (o : List ℕ). number ∷ o) (single_out ∙ ap (λ (o : Option ℕ). option_to_list o)
       (no_tx old.worker.begun.tx (out ∙ ap has_transaction at))))
-  alone_turn (goes_on tx io tx_is begun now within) =
-      alone_with _ begun (now ∙ alone ∙ ap (λ (o : Option ℕ). option_to_list o) tx_is)
-  alone_turn (gives begun now) = alone_with _ begun (now ∙ alone)
-  alone_turn (ends tx tx_is begun now) = alone_with _ begun
-      (now ∙ none_out tx old.core.out (alone ∙ ap (λ (o : Option ℕ). option_to_list o) tx_is))
+  single_turn (goes_on tx io tx_is begun now within) =
+      single_with _ begun (now ∙ single_out ∙ ap (λ (o : Option ℕ). option_to_list o) tx_is)
+  single_turn (gives begun now) = single_with _ begun (now ∙ single_out)
+  single_turn (ends tx tx_is begun now) = single_with _ begun
+      (now ∙ none_out tx old.core.out (single_out ∙ ap (λ (o : Option ℕ). option_to_list o) tx_is))
 
-  pub still_alone : (made : Option Step) → GoesOn phase old made new → IsOutAlone new.worker new.core
-  still_alone made goes = alone_turn (turn_of old new phase made goes)
+  pub still_single : (made : Option Step) → GoesOn phase old made new → IsSingleOut new.worker new.core
+  still_single made goes = single_turn (turn_of old new phase made goes)

@@ -16,8 +16,8 @@ use Rattle.procs.specs.declared.planner.Planner.{Planner}
 use Rattle.txn.specs.Fetch.{Fetch}
 use Rattle.txn.specs.Group.{blocks_of}
 use Rattle.txn.specs.declared.outcomes.BeginFault.{BeginFault}
-use Rattle.store_promise.specs.declared.aims.Aim.{Aim}
-use Rattle.store_promise.specs.declared.aims.Aim.TheVariants as aim
+use Rattle.store_promise.specs.declared.lock_requests.LockRequest.{LockRequest}
+use Rattle.store_promise.specs.declared.lock_requests.LockRequest.TheVariants as lock_request
 use Rattle.store_promise.specs.Verdicts.{cause_of, refusal}
 use Rattle.store_promise.specs.declared.answers.Verdict.TheVariants as verdict
 use Rattle.store_promise.specs.declared.events.Cause.{Cause}
@@ -26,11 +26,11 @@ use Rattle.store_promise.specs.declared.events.Step.{Step}
 use Rattle.store_promise.specs.declared.events.Step.TheVariants as step
 use Rattle.store_workers.specs.Phases.{is_planned, is_served}
 use Rattle.store_workers.specs.Seen.{seen_in, seen_of}
-use Rattle.store_workers.specs.WorkerAnswers.{claim_wish, committing_of, wish_of, with_answer}
-use Rattle.store_workers.specs.WorkerSteps.{BeginsBy, EndsBy, GoesByAim, GoesByNext, GoesOn, HasBegun, HasClaimed}
+use Rattle.store_workers.specs.WorkerAnswers.{claim_answer, committing_of, want_answer, with_answer}
+use Rattle.store_workers.specs.WorkerSteps.{BeginsBy, EndsBy, GoesByLockRequest, GoesByNext, GoesOn, HasBegun, HasClaimed}
 use Rattle.store_workers.specs.WorkerSteps.{HasCommitted, HasGivenBack, HasLacked, HasLeft}
 use Rattle.store_workers.specs.WorkerSteps.{HasRefused, HasWanted}
-use Rattle.store_workers.specs.WorkerSteps.{IsNext, IsNoBeginning, Side, Waits, given_step}
+use Rattle.store_workers.specs.WorkerSteps.{IsNext, IsNoBeginning, WorkerAndCore, Waits, given_step}
 use Rattle.store_workers.specs.declared.workers.parts.Job.{Job}
 use Rattle.store_workers.specs.declared.workers.parts.State.{State}
 use Rattle.store_workers.specs.declared.workers.parts.Phase.{Phase}
@@ -38,17 +38,17 @@ use Rattle.store_workers.specs.declared.workers.parts.Phase.TheVariants.{Idle, C
 use Rattle.store_workers.specs.declared.workers.parts.Phase.TheVariants.{Reading, Read}
 use Rattle.store_workers.specs.declared.workers.parts.Phase.TheVariants.{Refused, Again, Waiting}
 
--- What is wished next: by the plan, where nothing is left to be taken again, or the first of what is.
-pub record IsWished (worker : State) (one : Aim) (next : Plan) : Type 0 where
+-- What is asked for next: by the plan, where nothing is left to be taken again, or the first of what is.
+pub record IsRequested (worker : State) (one : LockRequest) (next : Plan) : Type 0 where
   pub job : Job
   pub job_is : worker.work.job ≡ Some job
   pub snap : Snap
   pub snap_is : seen_in worker.work.planner ≡ Some (seen_of snap)
   pub why : ((worker.known.left ≡ []) × IsNext worker next)
-      ⊎ ((later : List Aim) × (worker.known.left ≡ one ∷ later))
+      ⊎ ((later : List LockRequest) × (worker.known.left ≡ one ∷ later))
 
 -- what is to be shown of each step, where the phase is the one before it
-pub record Cases (old new : Side) (P : Phase → Option Step → Type 0) : Type 0 where
+pub record Cases (old new : WorkerAndCore) (P : Phase → Option Step → Type 0) : Type 0 where
   pub idle : new ≡ old → P Idle None
   pub reading : new ≡ old → P Reading None
   pub begun : (job : Job) (number : ℕ) → old.worker.work.job ≡ Some job → begins_transaction job.call ≡ true
@@ -63,12 +63,12 @@ pub record Cases (old new : Side) (P : Phase → Option Step → Type 0) : Type 
       → new.worker ≡ with_answer (verdict.Reply Null) None old.worker
       → P Called (Some step.Replied)
   pub wanted : (tx : ℕ) (addr : Addr) (mode : Mode) (made : Step) → old.worker.begun.tx ≡ Some tx
-      → IsWished old.worker (aim.Object addr mode) (plan.Need addr mode)
+      → IsRequested old.worker (lock_request.Object addr mode) (plan.Need addr mode)
       → (has : HasWanted tx addr mode old made new)
-      → P Planning (Some (step.Wanted addr mode (wish_of has.answer)))
+      → P Planning (Some (step.Wanted addr mode (want_answer has.answer)))
   pub claimed : (tx : ℕ) (block : BlockNo) (made : Step) → old.worker.begun.tx ≡ Some tx
-      → IsWished old.worker (aim.Claim block) (plan.Claim block) → (has : HasClaimed tx block old made new)
-      → P Planning (Some (step.Claimed block (claim_wish has.answer)))
+      → IsRequested old.worker (lock_request.Claim block) (plan.Claim block) → (has : HasClaimed tx block old made new)
+      → P Planning (Some (step.Claimed block (claim_answer has.answer)))
   pub committed : (job : Job) (tx : ℕ) (done : Outcome) (made : Step) → old.worker.begun.tx ≡ Some tx
       → IsNext old.worker (plan.Done done) → old.worker.known.left ≡ [] → old.worker.work.job ≡ Some job
       → (has : HasCommitted job tx done old made new)
@@ -88,7 +88,7 @@ pub record Cases (old new : Side) (P : Phase → Option Step → Type 0) : Type 
       → P (Waiting place) (Some (step.Stable place has.settled))
 
 -- each is one of these
-module _ (old new : Side) (P : Phase → Option Step → Type 0) (cases : Cases old new P) where
+module _ (old new : WorkerAndCore) (P : Phase → Option Step → Type 0) (cases : Cases old new P) where
   so : (phase : Phase) (one other : Step) → one ≡ other → P phase (Some other) → P phase (Some one)
   so phase one other is shown = subst (λ made. P phase (Some made)) (sym is) shown
 
@@ -151,7 +151,7 @@ module _ (old new : Side) (P : Phase → Option Step → Type 0) (cases : Cases 
       ends (step.InstIo a) has = commits old.worker.work.job _ refl has
       ends (step.InstDone a) has = commits old.worker.work.job _ refl has
 
-    by_plan : (one : Aim) (next : Plan) → IsNext old.worker next → IsWished old.worker one next
+    by_plan : (one : LockRequest) (next : Plan) → IsNext old.worker next → IsRequested old.worker one next
     by_plan one next is = record {
       job = is.job;
       job_is = is.job_is;
@@ -163,20 +163,20 @@ module _ (old new : Side) (P : Phase → Option Step → Type 0) (cases : Cases 
     goes : (next : Plan) (made : Step) → IsNext old.worker next → GoesByNext next tx old made new
         → P Planning (Some made)
     goes (plan.Need addr mode) made is has = so Planning made _ has.made_is
-        (cases.wanted tx addr mode made tx_is (by_plan (aim.Object addr mode) (plan.Need addr mode) is) has)
+        (cases.wanted tx addr mode made tx_is (by_plan (lock_request.Object addr mode) (plan.Need addr mode) is) has)
     goes (plan.Claim block) made is has = so Planning made _ has.made_is
-        (cases.claimed tx block made tx_is (by_plan (aim.Claim block) (plan.Claim block) is) has)
+        (cases.claimed tx block made tx_is (by_plan (lock_request.Claim block) (plan.Claim block) is) has)
     goes (plan.Done done) made is has = ends done is made has
     goes plan.NoMemory made is has = lacks made has
 
   -- what is taken again, with a call and what was read for it
   module _ (tx : ℕ) (tx_is : old.worker.begun.tx ≡ Some tx) (planned : is_planned old.worker.work ≡ true)
-      (one : Aim) (later : List Aim) (left : old.worker.known.left ≡ one ∷ later) where
-    again : (next : Plan) → IsWished old.worker one next
+      (one : LockRequest) (later : List LockRequest) (left : old.worker.known.left ≡ one ∷ later) where
+    again : (next : Plan) → IsRequested old.worker one next
     again next = by old.worker.work.job refl old.worker.work.planner refl planned
       where
         by : (job : Option Job) → old.worker.work.job ≡ job → (planner : Option Planner) → old.worker.work.planner ≡ planner
-            → (is_served job && is_some planner) ≡ true → IsWished old.worker one next
+            → (is_served job && is_some planner) ≡ true → IsRequested old.worker one next
         by None job_is planner planner_is planned = absurd (true≢false (sym planned))
         by (Some job) job_is None planner_is planned = absurd (none_planned (begins_transaction job.call) planned)
           where
@@ -191,15 +191,15 @@ module _ (old new : Side) (P : Phase → Option Step → Type 0) (cases : Cases 
           why = inr (later, left);
         }
 
-  takes : (tx : ℕ) → old.worker.begun.tx ≡ Some tx → is_planned old.worker.work ≡ true → (one : Aim)
-      → (later : List Aim) → old.worker.known.left ≡ one ∷ later → (made : Step)
-      → GoesByAim one tx old made new → P Planning (Some made)
-  takes tx tx_is planned (aim.Object addr mode) later left made has =
+  takes : (tx : ℕ) → old.worker.begun.tx ≡ Some tx → is_planned old.worker.work ≡ true → (one : LockRequest)
+      → (later : List LockRequest) → old.worker.known.left ≡ one ∷ later → (made : Step)
+      → GoesByLockRequest one tx old made new → P Planning (Some made)
+  takes tx tx_is planned (lock_request.Object addr mode) later left made has =
       so Planning made _ has.made_is (cases.wanted tx addr mode made tx_is
-      (again tx tx_is planned (aim.Object addr mode) later left (plan.Need addr mode)) has)
-  takes tx tx_is planned (aim.Claim block) later left made has =
+      (again tx tx_is planned (lock_request.Object addr mode) later left (plan.Need addr mode)) has)
+  takes tx tx_is planned (lock_request.Claim block) later left made has =
       so Planning made _ has.made_is (cases.claimed tx block made tx_is
-      (again tx tx_is planned (aim.Claim block) later left (plan.Claim block)) has)
+      (again tx tx_is planned (lock_request.Claim block) later left (plan.Claim block)) has)
 
   gives : (ok : Bool) (found : Option Fetch) (made : Step) → old.worker.begun.io ≡ found
       → IsSomeAnd found (λ io. HasGivenBack ok io old made new) → P (Read ok) (Some made)

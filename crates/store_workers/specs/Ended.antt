@@ -4,7 +4,7 @@ use Rattle.disk.specs.Device.{Content}
 use Rattle.disk.specs.declared.block.BlockNo.{BlockNo}
 use Rattle.objects.specs.declared.addr.Addr.{Addr}
 use Rattle.txn_law.specs.Core.{CoreState, without}
-use Rattle.txn_law.specs.CoreWindow.{KeepsHome, KeepsReads}
+use Rattle.txn_law.specs.CoreWindow.{PreservesHome, PreservesReads}
 use Rattle.txn_law.specs.Fetch.{Fetch}
 use Rattle.txn_law.specs.Leaves.{but_by, in_memory, is_fetching, taken_by, without_fetch}
 use Rattle.txn_law.specs.declared.hold.Hold.{Hold}
@@ -35,8 +35,8 @@ pub record GivesFetchBack (io : Option Fetch) (old new : CoreState) : Type 0 whe
   pub only : new ≡ record old { present = new.present }
   pub fetches : (block : BlockNo) → is_fetching new block ≡ without_io io (is_fetching old) block
   pub memory : BringsNothing old new
-  pub stays : (other : ℕ) → KeepsReads old new other
-  pub home : KeepsHome old new
+  pub stays : (other : ℕ) → PreservesReads old new other
+  pub home : PreservesHome old new
 
 -- A transaction has ended, if there was one: what it had taken is free, and what others have taken stays.
 pub record GivesTransactionBack (tx : Option ℕ) (old new : CoreState) : Type 0 where
@@ -44,8 +44,8 @@ pub record GivesTransactionBack (tx : Option ℕ) (old new : CoreState) : Type 0
   pub holds : (other : ℕ) (addr : Addr) → taken_by new other addr ≡ but_of tx (taken_by old) other addr
   pub fetches : (block : BlockNo) → is_fetching new block ≡ is_fetching old block
   pub memory : BringsNothing old new
-  pub stays : (other : ℕ) → (tx ≡ Some other → ⊥) → KeepsReads old new other
-  pub home : KeepsHome old new
+  pub stays : (other : ℕ) → (tx ≡ Some other → ⊥) → PreservesReads old new other
+  pub home : PreservesHome old new
 
 -- What a worker had begun was given back: its transaction has ended, what that had taken is free, and its
 -- fetch is pending no more. What others have taken or fetch stays, and so do the log, the counts and the kept
@@ -55,5 +55,5 @@ pub record GivesAllBack (begun : Begun) (old new : CoreState) : Type 0 where
   pub holds : (other : ℕ) (addr : Addr) → taken_by new other addr ≡ but_of begun.tx (taken_by old) other addr
   pub fetches : (block : BlockNo) → is_fetching new block ≡ without_io begun.io (is_fetching old) block
   pub memory : BringsNothing old new
-  pub stays : (other : ℕ) → (begun.tx ≡ Some other → ⊥) → KeepsReads old new other
-  pub home : KeepsHome old new
+  pub stays : (other : ℕ) → (begun.tx ≡ Some other → ⊥) → PreservesReads old new other
+  pub home : PreservesHome old new

@@ -15,20 +15,20 @@ use Rattle.txn.specs.Object.{ObjectBytes}
 pub record Seen : Type 0 where
   pub geometry : Geometry
   pub objects : List ObjectBytes
-  pub alone : List Addr
+  pub exclusives : List Addr
   pub claims : List BlockNo
 
 abbrev pub seen_of : Snap → Seen
 seen_of snap = record {
   geometry = snap.geometry;
   objects = snap.objects.items;
-  alone = snap.alone.items;
+  exclusives = snap.exclusives.items;
   claims = snap.claims.items;
 }
 
 -- the mode in which an object was asked for, by the addresses of those that were asked for alone
 abbrev pub mode_in : List Addr → Addr → Mode
-mode_in alone addr = if is_among addr alone then modes.Exclusive else modes.Shared
+mode_in exclusives addr = if is_among addr exclusives then modes.Exclusive else modes.Shared
 
 -- what was read for a planner
 abbrev pub seen_in : Option Planner → Option Seen
@@ -40,7 +40,7 @@ abbrev pub with_object : Addr → Mode → List ℕ → Option Seen → Option S
 with_object addr mode bytes None = None
 with_object addr mode bytes (Some seen) = Some (record seen {
   objects = with_read addr bytes seen.objects;
-  alone = with_mode addr mode seen.alone;
+  exclusives = with_mode addr mode seen.exclusives;
 })
 
 -- once a block more was claimed

@@ -12,7 +12,7 @@ use Rattle.nfs_spec.specs.Model.Refused.{refused}
 use Rattle.circ.specs.declared.log.outcomes.Seq.{Seq}
 use Rattle.txn.specs.Fetch.{Fetch}
 use Rattle.store_promise.specs.Progress.{Progress, Stage, Taken}
-use Rattle.store_promise.specs.Progress as told
+use Rattle.store_promise.specs.Progress as run_progress
 use Rattle.procs.specs.SoundCalls.{SoundCall}
 use Rattle.store_workers.specs.Asked.{Asking}
 use Rattle.store_workers.specs.Knowing.{Knowing, known_in}
@@ -31,14 +31,14 @@ taken_as mode addr = record { addr = addr; mode = mode }
 -- the objects that were read, each in the mode in which it was asked for last, and the blocks that were claimed
 abbrev pub held_in : Option Seen → List Taken
 held_in None = []
-held_in (Some seen) = map (λ object. taken_as (mode_in seen.alone object.addr) object.addr) seen.objects
+held_in (Some seen) = map (λ object. taken_as (mode_in seen.exclusives object.addr) object.addr) seen.objects
 
 abbrev pub claimed_in : Option Seen → List BlockNo
 claimed_in None = []
 claimed_in (Some seen) = seen.claims
 
 -- a transaction, with what was read and claimed in it, what it has taken, and what is left to be taken again
-abbrev pub begun_of : Option ℕ → Option Seen → Knowing → told.Begun
+abbrev pub begun_of : Option ℕ → Option Seen → Knowing → run_progress.Begun
 begun_of tx seen knowing = record {
   number = unwrap_or tx 0;
   held = held_in seen;
@@ -48,30 +48,30 @@ begun_of tx seen knowing = record {
 }
 
 -- what the worker was handed
-abbrev pub handed : Job → told.Job
+abbrev pub handed : Job → run_progress.Job
 handed job = record { credential = job.ctx.credential; moment = job.ctx.moment; call = job.call }
 
 -- it is at this stage with a call
 abbrev pub at_stage : Option Job → Stage → Progress
-at_stage None stage = told.Idle
-at_stage (Some job) stage = told.At (handed job) stage
+at_stage None stage = run_progress.Idle
+at_stage (Some job) stage = run_progress.At (handed job) stage
 
--- a stage of an object whose block is fetched, as it is wished in this mode
-abbrev pub at_fetch : (Taken → Stage) → told.Begun → Mode → Option Addr → Stage
-at_fetch stage begun mode None = told.Planning begun
+-- a stage of an object whose block is fetched, as it is asked for in this mode
+abbrev pub at_fetch : (Taken → Stage) → run_progress.Begun → Mode → Option Addr → Stage
+at_fetch stage begun mode None = run_progress.Planning begun
 at_fetch stage begun mode (Some addr) = stage (taken_as mode addr)
 
-abbrev pub progress_in : Phase → Option Job → told.Begun → Asking → Knowing → Progress
-progress_in Idle job begun asked knowing = told.Idle
-progress_in Called job begun asked knowing = at_stage job (told.Called (known_in knowing))
-progress_in Planning job begun asked knowing = at_stage job (told.Planning begun)
+abbrev pub progress_in : Phase → Option Job → run_progress.Begun → Asking → Knowing → Progress
+progress_in Idle job begun asked knowing = run_progress.Idle
+progress_in Called job begun asked knowing = at_stage job (run_progress.Called (known_in knowing))
+progress_in Planning job begun asked knowing = at_stage job (run_progress.Planning begun)
 progress_in Reading job begun asked knowing =
-    at_stage job (at_fetch (λ taken. told.Reading begun taken) begun asked.mode asked.wish)
+    at_stage job (at_fetch (λ taken. run_progress.Reading begun taken) begun asked.mode asked.fetch_addr)
 progress_in (Read ok) job begun asked knowing =
-    at_stage job (at_fetch (λ taken. told.Read begun taken ok) begun asked.mode asked.wish)
-progress_in (Refused why) job begun asked knowing = at_stage job (told.Refused begun why)
-progress_in Again job begun asked knowing = at_stage job (told.Again begun knowing.off)
-progress_in (Waiting place) job begun asked knowing = at_stage asked.waiting (told.Waiting place.0)
+    at_stage job (at_fetch (λ taken. run_progress.Read begun taken ok) begun asked.mode asked.fetch_addr)
+progress_in (Refused why) job begun asked knowing = at_stage job (run_progress.Refused begun why)
+progress_in Again job begun asked knowing = at_stage job (run_progress.Again begun knowing.off)
+progress_in (Waiting place) job begun asked knowing = at_stage asked.waiting (run_progress.Waiting place.0)
 
 -- how far it is, as its steps tell it
 abbrev pub progress_of : State → Progress
@@ -106,7 +106,7 @@ RunsIn boot state = IsSomeAnd state.work.job (IsJobIn boot state.begun.tx)
 
 -- the block that is fetched is that of the object that was asked for
 abbrev pub IsFetchOf : State → Type 0
-IsFetchOf state = IsSomeAnd state.asked.wish (λ addr.
+IsFetchOf state = IsSomeAnd state.asked.fetch_addr (λ addr.
     IsSomeAnd state.begun.io (λ (io : Fetch). io.block ≡ addr.block))
 
 -- The procedure of a call that is to be answered stable was committed at this place: kept for it are its

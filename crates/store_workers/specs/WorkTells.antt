@@ -13,10 +13,10 @@ use Rattle.store_promise.specs.declared.events.Committing.TheVariants.{Committed
 use Rattle.store_promise.specs.declared.events.Step.{Step}
 use Rattle.store_promise.specs.declared.events.Step.TheVariants as step
 use Rattle.store_promise.specs.declared.transcript.Answer.{Answer}
-use Rattle.store_promise.specs.declared.transcript.Committed as noted
+use Rattle.store_promise.specs.declared.transcript.Committed as traced
 use Rattle.store_workers.specs.Stages.{IsWorkerAt, entry_at, progress_of}
-use Rattle.store_workers.specs.Telling.{told}
-use Rattle.store_workers.specs.WorkerSteps.{Side}
+use Rattle.store_workers.specs.RunReports.{reported}
+use Rattle.store_workers.specs.WorkerSteps.{WorkerAndCore}
 use Rattle.store_workers.specs.declared.workers.parts.State.{State}
 
 -- ---- how far the worker is
@@ -57,7 +57,7 @@ with_ready worker entries state = entries ++ entries_ready worker state.work.ent
 -- a transcript has at the place of each of these entries its reply
 abbrev pub HasReplies : Transcript → List Entry → Type 0
 HasReplies t entries = (place : ℕ) (entry : Entry) → entry_at entries place ≡ Some entry
-    → (c : noted.Committed) × (committed_at t place ≡ Some c) × (c.reply ≡ entry.reply)
+    → (c : traced.Committed) × (committed_at t place ≡ Some c) × (c.reply ≡ entry.reply)
 
 -- What lies ready is what the promise wants of an answer, with the step that ends the call, in each
 -- transcript that has these entries.
@@ -81,13 +81,13 @@ pub record TellsAnswer (entries : List Entry) (old new : Progress) (made : Optio
 
 -- What a step tells, of a worker of this number: how far the worker is then, the entry and the answer that
 -- lie ready. Once these are told, the worker stands between the events again.
-pub record TellsStep (boot number : ℕ) (entries : List Entry) (old : Side) (made : Option Step) (new : Side)
+pub record TellsStep (boot number : ℕ) (entries : List Entry) (old : WorkerAndCore) (made : Option Step) (new : WorkerAndCore)
     : Type 0 where
   pub progress : progress_of new.worker ≡ progress_after old.core.log.broken made (progress_of old.worker)
   pub entry : TellsEntry boot (length entries) (progress_of old.worker) made new.worker.work.entry
   pub answer : TellsAnswer (with_ready number entries new.worker) (progress_of old.worker)
       (progress_of new.worker) made new.worker.work.answer
-  pub stands : IsWorkerAt boot (with_ready number entries new.worker) (told new.worker)
+  pub stands : IsWorkerAt boot (with_ready number entries new.worker) (reported new.worker)
 
 -- ---- a call that is handed over, and a read
 

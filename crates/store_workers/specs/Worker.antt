@@ -6,9 +6,6 @@ use Rattle.nfs_types.specs.declared.ctx.Ctx.{Ctx}
 use Rattle.nfs_types.specs.declared.ctx.Moment.{Moment}
 use Rattle.layout.specs.Geometry.{IsLawful}
 use Rattle.objects.specs.declared.mode.Mode.TheVariants as modes
-use Rattle.inode.specs.Snap as seen
-use Rattle.procs.specs.declared.next.Plan.{Plan}
-use Rattle.procs.specs.declared.next.Plan.TheVariants as plan
 use Rattle.txn.specs.Core.{CoreState, IsOut}
 use Rattle.txn.specs.declared.outcomes.Want.{Want}
 use Rattle.txn.specs.declared.outcomes.Want.TheVariants as want
@@ -50,18 +47,6 @@ pub record IsHeld (state : State) : Type 0 where
   pub no_fetch : state.begun.io ≡ None
   pub planned : is_planned state.work ≡ true
 
--- it has room for what is read or claimed next, and to note it
-pub record HasRoom (state : State) : Type 0 where
-  pub planner : IfSome state.work.planner (λ planner. seen.HasRoom planner.snap)
-  pub known : state.known.room ≡ true
-
--- there is room for what the plan asks for
-abbrev pub HasRoomFor : Plan → State → Type 0
-HasRoomFor (plan.Need addr mode) state = HasRoom state
-HasRoomFor (plan.Claim block) state = HasRoom state
-HasRoomFor (plan.Done done) state = Unit {0}
-HasRoomFor plan.NoMemory state = Unit {0}
-
 -- an object that is held has as many bytes as were asked for
 abbrev pub HasBytes : ℕ → Want → Type 0
 HasBytes len (want.Held back bytes) = length bytes ≡ len
@@ -89,6 +74,6 @@ at_rest = record {
   phase = Idle;
   work = record { job = None; planner = None; reply = None; broken_reply = None; entry = None; answer = None };
   begun = record { tx = None; io = None };
-  asked = record { wish = None; mode = modes.Exclusive; waiting = None };
+  asked = record { fetch_addr = None; mode = modes.Exclusive; waiting = None };
   known = nothing_known;
 }

@@ -14,18 +14,18 @@ use Rattle.txn.specs.declared.outcomes.Commit.{Commit}
 use Rattle.txn.specs.declared.outcomes.Commit.TheVariants as commit
 use Rattle.txn.specs.declared.outcomes.Want.{Want}
 use Rattle.txn.specs.declared.outcomes.Want.TheVariants as want
-use Rattle.store_promise.specs.Aims.{is_barred}
-use Rattle.store_promise.specs.declared.aims.Aim.{Aim}
-use Rattle.store_promise.specs.declared.aims.Aim.TheVariants as aim
+use Rattle.store_promise.specs.LockRequests.{is_barred}
+use Rattle.store_promise.specs.declared.lock_requests.LockRequest.{LockRequest}
+use Rattle.store_promise.specs.declared.lock_requests.LockRequest.TheVariants as lock_request
 use Rattle.store_promise.specs.declared.answers.Verdict.{Verdict}
 use Rattle.store_promise.specs.declared.answers.Verdict.TheVariants as verdict
 use Rattle.store_promise.specs.declared.events.Cause.TheVariants as cause
 use Rattle.store_promise.specs.declared.events.Committing.{Committing}
 use Rattle.store_promise.specs.declared.events.Committing.TheVariants as committing
-use Rattle.store_promise.specs.declared.events.Wish.{Wish}
-use Rattle.store_promise.specs.declared.events.Wish.TheVariants as wish
+use Rattle.store_promise.specs.declared.events.LockAnswer.{LockAnswer}
+use Rattle.store_promise.specs.declared.events.LockAnswer.TheVariants as lock_answer
 use Rattle.store_workers.specs.Asked.{Asking}
-use Rattle.store_workers.specs.Knowing.{Knowing, with_aim, with_off, without_off}
+use Rattle.store_workers.specs.Knowing.{Knowing, with_lock_request, with_off, without_off}
 use Rattle.store_workers.specs.declared.workers.parts.Begun.{Begun}
 use Rattle.store_workers.specs.declared.workers.parts.Job.{Job}
 use Rattle.store_workers.specs.declared.workers.parts.Phase.{Phase}
@@ -35,37 +35,37 @@ use Rattle.store_workers.specs.declared.workers.parts.Phase.TheVariants.{Waiting
 use Rattle.store_workers.specs.declared.workers.parts.State.{State}
 use Rattle.store_workers.specs.Seen.{Seen, with_claim, with_object}
 
--- ---- a wish to read
+-- ---- a lock request to read
 
-abbrev pub wish_of : Want → Wish
-wish_of (want.Held back bytes) = wish.Held
-wish_of (want.Busy back) = wish.Busy
-wish_of (want.Fetch back io) = wish.Fetch
-wish_of (want.Loading back) = wish.Loading
-wish_of (want.Outside back) = wish.Outside
-wish_of (want.NoMemory back) = wish.NoMemory
+abbrev pub want_answer : Want → LockAnswer
+want_answer (want.Held back bytes) = lock_answer.Held
+want_answer (want.Busy back) = lock_answer.Busy
+want_answer (want.Fetch back io) = lock_answer.Fetch
+want_answer (want.Loading back) = lock_answer.Loading
+want_answer (want.Outside back) = lock_answer.Outside
+want_answer (want.NoMemory back) = lock_answer.NoMemory
 
 -- who is kept off waits, where it has taken nothing that bars the wait, and else begins again
-abbrev pub phase_off : Aim → Knowing → Phase
-phase_off wished knowing = if is_barred wished knowing.taken then Again else Planning
+abbrev pub phase_off : LockRequest → Knowing → Phase
+phase_off request knowing = if is_barred request knowing.taken then Again else Planning
 
-abbrev pub known_off : Aim → Knowing → Knowing
-known_off wished knowing = if is_barred wished knowing.taken then with_off wished knowing else knowing
+abbrev pub known_off : LockRequest → Knowing → Knowing
+known_off request knowing = if is_barred request knowing.taken then with_off request knowing else knowing
 
 abbrev pub phase_wanted : Addr → Mode → Want → Knowing → Phase
 phase_wanted addr mode (want.Held back bytes) knowing = Planning
-phase_wanted addr mode (want.Busy back) knowing = phase_off (aim.Object addr mode) knowing
+phase_wanted addr mode (want.Busy back) knowing = phase_off (lock_request.Object addr mode) knowing
 phase_wanted addr mode (want.Fetch back io) knowing = Reading
-phase_wanted addr mode (want.Loading back) knowing = phase_off (aim.Object addr mode) knowing
+phase_wanted addr mode (want.Loading back) knowing = phase_off (lock_request.Object addr mode) knowing
 phase_wanted addr mode (want.Outside back) knowing = Refused cause.Io
 phase_wanted addr mode (want.NoMemory back) knowing = Refused cause.NoMemory
 
 -- what is taken then
 abbrev pub known_wanted : Addr → Mode → Want → Knowing → Knowing
-known_wanted addr mode (want.Held back bytes) knowing = with_aim (aim.Object addr mode) knowing
-known_wanted addr mode (want.Busy back) knowing = known_off (aim.Object addr mode) knowing
-known_wanted addr mode (want.Fetch back io) knowing = with_aim (aim.Object addr mode) knowing
-known_wanted addr mode (want.Loading back) knowing = known_off (aim.Object addr mode) knowing
+known_wanted addr mode (want.Held back bytes) knowing = with_lock_request (lock_request.Object addr mode) knowing
+known_wanted addr mode (want.Busy back) knowing = known_off (lock_request.Object addr mode) knowing
+known_wanted addr mode (want.Fetch back io) knowing = with_lock_request (lock_request.Object addr mode) knowing
+known_wanted addr mode (want.Loading back) knowing = known_off (lock_request.Object addr mode) knowing
 known_wanted addr mode (want.Outside back) knowing = knowing
 known_wanted addr mode (want.NoMemory back) knowing = knowing
 
@@ -79,11 +79,11 @@ begun_wanted (want.Outside back) = record { tx = Some back; io = None }
 begun_wanted (want.NoMemory back) = record { tx = Some back; io = None }
 
 -- what was read then: what is taken again isn't looked at
-abbrev pub seen_held : List Aim → Addr → Mode → List ℕ → Option Seen → Option Seen
+abbrev pub seen_held : List LockRequest → Addr → Mode → List ℕ → Option Seen → Option Seen
 seen_held [] addr mode bytes seen = with_object addr mode bytes seen
 seen_held (next ∷ later) addr mode bytes seen = seen
 
-abbrev pub seen_wanted : List Aim → Addr → Mode → Want → Option Seen → Option Seen
+abbrev pub seen_wanted : List LockRequest → Addr → Mode → Want → Option Seen → Option Seen
 seen_wanted left addr mode (want.Held back bytes) seen = seen_held left addr mode bytes seen
 seen_wanted left addr mode (want.Busy back) seen = seen
 seen_wanted left addr mode (want.Fetch back io) seen = seen
@@ -93,33 +93,33 @@ seen_wanted left addr mode (want.NoMemory back) seen = seen
 
 -- its block is to be fetched then
 abbrev pub asked_wanted : Addr → Mode → Want → Asking → Asking
-asked_wanted addr mode (want.Fetch back io) asked = record asked { wish = Some addr; mode = mode }
+asked_wanted addr mode (want.Fetch back io) asked = record asked { fetch_addr = Some addr; mode = mode }
 asked_wanted addr mode (want.Held back bytes) asked = asked
 asked_wanted addr mode (want.Busy back) asked = asked
 asked_wanted addr mode (want.Loading back) asked = asked
 asked_wanted addr mode (want.Outside back) asked = asked
 asked_wanted addr mode (want.NoMemory back) asked = asked
 
--- ---- a wish to claim
+-- ---- a lock request to claim
 
-abbrev pub claim_wish : Claim → Wish
-claim_wish (claim.Held back) = wish.Held
-claim_wish (claim.Busy back) = wish.Busy
-claim_wish (claim.Loading back) = wish.Loading
-claim_wish (claim.Outside back) = wish.Outside
-claim_wish (claim.NoMemory back) = wish.NoMemory
+abbrev pub claim_answer : Claim → LockAnswer
+claim_answer (claim.Held back) = lock_answer.Held
+claim_answer (claim.Busy back) = lock_answer.Busy
+claim_answer (claim.Loading back) = lock_answer.Loading
+claim_answer (claim.Outside back) = lock_answer.Outside
+claim_answer (claim.NoMemory back) = lock_answer.NoMemory
 
 abbrev pub phase_claimed : BlockNo → Claim → Knowing → Phase
 phase_claimed block (claim.Held back) knowing = Planning
-phase_claimed block (claim.Busy back) knowing = phase_off (aim.Claim block) knowing
-phase_claimed block (claim.Loading back) knowing = phase_off (aim.Claim block) knowing
+phase_claimed block (claim.Busy back) knowing = phase_off (lock_request.Claim block) knowing
+phase_claimed block (claim.Loading back) knowing = phase_off (lock_request.Claim block) knowing
 phase_claimed block (claim.Outside back) knowing = Refused cause.Io
 phase_claimed block (claim.NoMemory back) knowing = Refused cause.NoMemory
 
 abbrev pub known_claimed : BlockNo → Claim → Knowing → Knowing
-known_claimed block (claim.Held back) knowing = with_aim (aim.Claim block) knowing
-known_claimed block (claim.Busy back) knowing = known_off (aim.Claim block) knowing
-known_claimed block (claim.Loading back) knowing = known_off (aim.Claim block) knowing
+known_claimed block (claim.Held back) knowing = with_lock_request (lock_request.Claim block) knowing
+known_claimed block (claim.Busy back) knowing = known_off (lock_request.Claim block) knowing
+known_claimed block (claim.Loading back) knowing = known_off (lock_request.Claim block) knowing
 known_claimed block (claim.Outside back) knowing = knowing
 known_claimed block (claim.NoMemory back) knowing = knowing
 
@@ -130,11 +130,11 @@ begun_claimed (claim.Loading back) = record { tx = Some back; io = None }
 begun_claimed (claim.Outside back) = record { tx = Some back; io = None }
 begun_claimed (claim.NoMemory back) = record { tx = Some back; io = None }
 
-abbrev pub seen_taken : List Aim → BlockNo → Option Seen → Option Seen
+abbrev pub seen_taken : List LockRequest → BlockNo → Option Seen → Option Seen
 seen_taken [] block seen = with_claim block seen
 seen_taken (next ∷ later) block seen = seen
 
-abbrev pub seen_claimed : List Aim → BlockNo → Claim → Option Seen → Option Seen
+abbrev pub seen_claimed : List LockRequest → BlockNo → Claim → Option Seen → Option Seen
 seen_claimed left block (claim.Held back) seen = seen_taken left block seen
 seen_claimed left block (claim.Busy back) seen = seen
 seen_claimed left block (claim.Loading back) seen = seen
@@ -145,9 +145,9 @@ seen_claimed left block (claim.NoMemory back) seen = seen
 
 -- a worker that has answered its call, and is idle
 abbrev pub with_answer : Verdict → Option Seq → State → State
-with_answer told place state = record state {
+with_answer given_verdict place state = record state {
   phase = Idle;
-  work = record state.work { answer = Some (record { verdict = told; place = place }) };
+  work = record state.work { answer = Some (record { verdict = given_verdict; place = place }) };
 }
 
 -- one that answers its committed procedure once the place is settled: so, or, if the store breaks before, by IO
@@ -169,9 +169,9 @@ committing_of (commit.Broken back change) = committing.Broken
 committing_of (commit.Spent back change) = committing.Spent
 
 -- the procedure is answered at once, or once it is stable
-abbrev pub told_of : Bool → Job → Reply → Seq → State → State
-told_of true job reply place state = with_replies job reply place state
-told_of false job reply place state = with_answer (verdict.Reply reply) (Some place) state
+abbrev pub answered_or_waiting : Bool → Job → Reply → Seq → State → State
+answered_or_waiting true job reply place state = with_replies job reply place state
+answered_or_waiting false job reply place state = with_answer (verdict.Reply reply) (Some place) state
 
 -- the worker has no call any more, and its entry lies ready
 abbrev pub with_entry : Job → Reply → State → State
@@ -185,7 +185,7 @@ with_entry job reply state = record state {
 -- the worker once its procedure was committed at this place
 abbrev pub committed : Job → Reply → Seq → State → State
 committed job reply place state =
-    with_entry job reply (told_of (is_answered_stable job.call) job reply place state)
+    with_entry job reply (answered_or_waiting (is_answered_stable job.call) job reply place state)
 
 -- it has its transaction still, and goes on in this phase
 abbrev pub with_tx : ℕ → Phase → State → State

@@ -27,7 +27,7 @@ pub record HasReadBlock (keeps_model : Type 0) (before : Device) (old : State) (
   pub worker : new ≡ with_read (is_ok answer) io content old
   pub call : HasRead before after
   pub failure : CountsFailure before after answer
-  pub brings : keeps_model → before.spoiled io.block.0 ≡ false → is_ok answer ≡ true
+  pub brings : keeps_model → before.uncertain io.block.0 ≡ false → is_ok answer ≡ true
       → content ≡ newest (current before io.block.0)
 
 -- a worker makes the read that is due; else nothing happens

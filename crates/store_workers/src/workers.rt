@@ -1,15 +1,16 @@
 //! One procedure at a time, as steps of the core.
 
 mod asked;
-mod committing;
+mod commits;
 mod known;
 mod last_entry;
-mod note;
 mod parts;
-mod planning;
+mod plan_steps;
+mod prepared;
+mod run_reports;
 mod sourced;
 mod steps;
-mod telling;
+mod trace;
 
 ghost use Rattle.std.specs.Prelude.{◌≡◌, true, is_some};
 ghost use Rattle.store_workers.specs.Phases.{has_fetch, has_transaction, is_ready};
@@ -20,21 +21,22 @@ use disk::{BlockNo, CrashDisk};
 use known::Known;
 use last_entry::LastEntry;
 use nfs_types::{Call, Credential, Ctx, Moment};
-use note::Note;
 use parts::{Begun, Job, Phase, State, Work};
-use procs::{Done, Voucher};
-use std::alloc::Global;
-use store_promise::{CallAnswer, Entry, Step};
-pub use telling::{
-    a_run_notes_its_workers_steps, a_worker_tells_its_call, a_worker_tells_its_read,
+use prepared::Prepared;
+use procs::{CommitWitness, Done};
+pub use run_reports::{
+    a_run_traces_its_workers_steps, a_worker_tells_its_call, a_worker_tells_its_read,
     a_worker_tells_its_steps,
 };
+use std::alloc::Global;
+use store_promise::{CallAnswer, Entry, Step};
+use trace::Trace;
 use txn::Core;
 
 /// A worker: the state of one procedure. What its steps commit and answer lies ready to be taken. Its type
 /// keeps that it has what it needs to go on, and that its call can be spelled.
 pub struct Worker {
-    state: State,
+    state: Prepared,
     pub ghost transaction: { is_some state.begun.tx ≡ has_transaction state.phase },
     pub ghost fetch: { is_some state.begun.io ≡ has_fetch state.phase },
     pub ghost ready: { is_ready state.phase state.work ≡ true },
@@ -47,36 +49,38 @@ impl Worker {
     ghost use Rattle.store_workers.specs.declared.workers.parts.Phase.TheVariants.{Again, Idle, Planning};
     ghost use Rattle.store_workers.specs.declared.workers.parts.Phase.TheVariants.{Reading};
     ghost use Rattle.store_images.specs.Counts.{SameFrame};
-    ghost use Rattle.store_workers.specs.Alone.{IsOutAlone};
+    ghost use Rattle.store_workers.specs.Single.{IsSingleOut};
     ghost use Rattle.store_workers.specs.Ended.{GivesAllBack};
     ghost use Rattle.store_images.specs.Fetches.{FetchesOnly};
     ghost use Rattle.layout.specs.Geometry.{IsLawful};
     ghost use Rattle.nfs_spec.specs.Model.Sound.{SoundTime};
     ghost use Rattle.nfs_types.specs.Fits.{CallFits};
     ghost use Rattle.store_workers.specs.Knowing.{nothing_known};
-    ghost use Rattle.store_workers.specs.Notes.{IsNoted, committed_by};
+    ghost use Rattle.store_workers.specs.Seen.{seen_in};
+    ghost use Rattle.store_workers.specs.Traces.{IsTraced, committed_by};
     ghost use Rattle.store_workers.specs.Phases.{block_due};
-    ghost use Rattle.store_workers.specs.Telling.{told};
-    ghost use Rattle.store_workers.specs.Vouched.{IsVouched, Vouches};
+    ghost use Rattle.store_workers.specs.Prepared.{plans_long};
+    ghost use Rattle.store_workers.specs.RunReports.{reported};
+    ghost use Rattle.store_workers.specs.Witnessed.{IsWitnessed, WitnessesCommit};
     ghost use Rattle.store_workers.specs.Worker.{Fits, at_rest, ctx_of, with_call};
     ghost use Rattle.store_workers.specs.WorkerReads.{HasReadBlock};
-    ghost use Rattle.store_workers.specs.WorkerSteps.{GoesOn, KeepsHomeOf, KeepsReadsOf, side};
+    ghost use Rattle.store_workers.specs.WorkerSteps.{GoesOn, PreservesHomeOf, PreservesReadsOf, with_snap, worker_and_core};
 
     /// An idle worker. It has begun nothing.
     pub fn new(alloc: Global) -> Worker
         ensures fits { (core : CoreState) → IsLawful core.log.blocks core.inodes → Fits result core }
         ensures state { result.state ≡ at_rest }
     {
-        Worker::with_room(alloc, 0)
+        Worker::with_alloc_cursor(alloc, 0)
     }
 
     /// The same, which looks for free blocks from a piece of their bitmap on.
-    pub fn with_room(alloc: Global, room: u32) -> Worker
+    pub fn with_alloc_cursor(alloc: Global, alloc_cursor: u32) -> Worker
         ensures fits { (core : CoreState) → IsLawful core.log.blocks core.inodes → Fits result core }
         ensures state { result.state ≡ at_rest }
     {
         Worker {
-            state: State {
+            state: Prepared::new(State {
                 phase: Phase::Idle,
                 work: Work {
                     job: None,
@@ -87,23 +91,23 @@ impl Worker {
                     answer: None,
                 },
                 begun: Begun { tx: None, io: None },
-                asked: Asked::new(room),
+                asked: Asked::new(alloc_cursor),
                 known: Known::new(alloc),
-            },
+            }),
         }
     }
 
     /// The piece of the bitmap from which its next call looks for free blocks: that of the block which the last call
     /// claimed last.
-    pub fn room(&self) -> u32 {
-        self.state.room()
+    pub fn alloc_cursor(&self) -> u32 {
+        self.state.state.alloc_cursor()
     }
 
     /// Whether the worker has no call.
     pub fn is_idle(&self) -> bool
         ensures { IsTrue result ↔ (self.now.state.phase ≡ Idle) }
     {
-        self.state.phase == Phase::Idle
+        self.state.state.phase == Phase::Idle
     }
 
     /// The block whose read is due, if one is.
@@ -111,10 +115,10 @@ impl Worker {
         ensures block { result ≡ block_due self.now.state.phase self.now.state.begun.io }
         ensures due { IsSome result ↔ (self.now.state.phase ≡ Reading) }
     {
-        if self.state.phase != Phase::Reading {
+        if self.state.state.phase != Phase::Reading {
             return None;
         }
-        let io = self.state.begun.io.as_ref()?;
+        let io = self.state.state.begun.io.as_ref()?;
         Some(io.block())
     }
 
@@ -139,7 +143,8 @@ impl Worker {
             boot: 0,
             transaction: 0,
         };
-        self.state.take_call(ctx, call);
+        self.state.plan = None;
+        self.state.state.take_call(ctx, call);
         true
     }
 
@@ -157,78 +162,96 @@ impl Worker {
             (λ made. HasReadBlock (D.keeps_model disk.new) (D.device disk.old) self.old.state made
             (D.device disk.new) self.new.state) }
     {
-        if self.state.phase != Phase::Reading {
+        if self.state.state.phase != Phase::Reading {
             return None;
         }
-        Some(self.state.read(disk))
+        self.state.plan = None;
+        Some(self.state.state.read(disk))
+    }
+
+    /// Whether the next step is one of a plan that may take long: of a listing, or of a call that has read many objects.
+    pub fn plans_long(&self) -> bool
+        ensures { result ≡ plans_long self.now.state }
+    {
+        self.state.plans_long()
+    }
+
+    /// Makes the plan of the next step, where that is one of a plan: so the step only goes by it. What was read for the
+    /// call stays as it is. Where the plan finds no memory the next step tells it. Nobody has to call this.
+    pub fn plan(&mut self, alloc: Global)
+        ensures fits { (core : CoreState) → Fits self.old core → Fits self.new core }
+        ensures rest { self.new.state ≡ with_snap self.new.state self.old.state }
+        ensures seen { seen_in self.new.state.work.planner ≡ seen_in self.old.state.work.planner }
+    {
+        self.state.plan(alloc);
     }
 
     /// Makes the next step: one method of the core, or the answer of a call that needs no transaction. None
     /// where the worker has no call or a read is due. It may be made with any core. With one that isn't the
-    /// worker's a wish is told Outside and a commit Foreign.
+    /// worker's a lock request is told Outside and a commit Foreign.
     pub fn step(&mut self, alloc: Global, core: &mut Core<Done>) -> Option<Step>
         ensures fits { Fits self.old core.old → Fits self.new core.new }
         ensures frame { SameFrame core.old core.new }
-        ensures step { GoesOn self.old.state.phase (side self.old.state core.old) result
-            (side self.new.state core.new) }
-        ensures home { KeepsHomeOf (side self.old.state core.old) (side self.new.state core.new) }
-        ensures stays { KeepsReadsOf (side self.old.state core.old) (side self.new.state core.new) }
+        ensures step { GoesOn self.old.state.phase (worker_and_core self.old.state core.old) result
+            (worker_and_core self.new.state core.new) }
+        ensures home { PreservesHomeOf (worker_and_core self.old.state core.old) (worker_and_core self.new.state core.new) }
+        ensures stays { PreservesReadsOf (worker_and_core self.old.state core.old) (worker_and_core self.new.state core.new) }
     {
-        let mut note = Note::unwanted();
-        self.make(alloc, core, &mut note)
+        let mut trace = Trace::unwanted();
+        self.make(alloc, core, &mut trace)
     }
 
     /// The same, with the procedure that the step committed, if it committed one: its reply is a copy, which is made
     /// before the commit.
-    pub fn step_noted(
+    pub fn step_traced(
         &mut self,
         alloc: Global,
         core: &mut Core<Done>,
     ) -> (Option<Step>, Option<Entry>)
         ensures fits { Fits self.old core.old → Fits self.new core.new }
         ensures frame { SameFrame core.old core.new }
-        ensures step { GoesOn self.old.state.phase (side self.old.state core.old) result.0
-            (side self.new.state core.new) }
+        ensures step { GoesOn self.old.state.phase (worker_and_core self.old.state core.old) result.0
+            (worker_and_core self.new.state core.new) }
         ensures entry { result.1 ≡ committed_by result.0 self.new.state }
-        ensures home { KeepsHomeOf (side self.old.state core.old) (side self.new.state core.new) }
-        ensures stays { KeepsReadsOf (side self.old.state core.old) (side self.new.state core.new) }
+        ensures home { PreservesHomeOf (worker_and_core self.old.state core.old) (worker_and_core self.new.state core.new) }
+        ensures stays { PreservesReadsOf (worker_and_core self.old.state core.old) (worker_and_core self.new.state core.new) }
     {
-        let mut note = Note::wanted();
-        let made = self.make(alloc, core, &mut note);
-        (made, note.entry)
+        let mut trace = Trace::wanted();
+        let made = self.make(alloc, core, &mut trace);
+        (made, trace.entry)
     }
 
     /// The same, with what shows that the step committed a procedure, if it committed one.
-    pub fn step_vouched(
+    pub fn step_witnessed(
         &mut self,
         alloc: Global,
         core: &mut Core<Done>,
-    ) -> (Option<Step>, Option<Voucher>)
+    ) -> (Option<Step>, Option<CommitWitness>)
         ensures fits { Fits self.old core.old → Fits self.new core.new }
         ensures frame { SameFrame core.old core.new }
-        ensures step { GoesOn self.old.state.phase (side self.old.state core.old) result.0
-            (side self.new.state core.new) }
-        ensures vouched { Vouches result.0 self.new.state result.1 }
-        ensures home { KeepsHomeOf (side self.old.state core.old) (side self.new.state core.new) }
-        ensures stays { KeepsReadsOf (side self.old.state core.old) (side self.new.state core.new) }
+        ensures step { GoesOn self.old.state.phase (worker_and_core self.old.state core.old) result.0
+            (worker_and_core self.new.state core.new) }
+        ensures witnessed { WitnessesCommit result.0 self.new.state result.1 }
+        ensures home { PreservesHomeOf (worker_and_core self.old.state core.old) (worker_and_core self.new.state core.new) }
+        ensures stays { PreservesReadsOf (worker_and_core self.old.state core.old) (worker_and_core self.new.state core.new) }
     {
-        let mut note = Note::unwanted();
-        let made = self.make(alloc, core, &mut note);
-        (made, note.voucher)
+        let mut trace = Trace::unwanted();
+        let made = self.make(alloc, core, &mut trace);
+        (made, trace.witness)
     }
 
     // Makes the next step, with a note of it where one is wanted.
-    fn make(&mut self, alloc: Global, core: &mut Core<Done>, note: &mut Note) -> Option<Step>
+    fn make(&mut self, alloc: Global, core: &mut Core<Done>, trace: &mut Trace) -> Option<Step>
         ensures fits { Fits self.old core.old → Fits self.new core.new }
         ensures frame { SameFrame core.old core.new }
-        ensures step { GoesOn self.old.state.phase (side self.old.state core.old) result
-            (side self.new.state core.new) }
-        ensures note { IsNoted result self.new.state note.old note.new }
-        ensures vouched { IsVouched result self.new.state note.old note.new }
-        ensures home { KeepsHomeOf (side self.old.state core.old) (side self.new.state core.new) }
-        ensures stays { KeepsReadsOf (side self.old.state core.old) (side self.new.state core.new) }
+        ensures step { GoesOn self.old.state.phase (worker_and_core self.old.state core.old) result
+            (worker_and_core self.new.state core.new) }
+        ensures trace { IsTraced result self.new.state trace.old trace.new }
+        ensures witnessed { IsWitnessed result self.new.state trace.old trace.new }
+        ensures home { PreservesHomeOf (worker_and_core self.old.state core.old) (worker_and_core self.new.state core.new) }
+        ensures stays { PreservesReadsOf (worker_and_core self.old.state core.old) (worker_and_core self.new.state core.new) }
     {
-        self.state.step(alloc, core, note)
+        self.state.step(alloc, core, trace)
     }
 
     /// Has a call that plans begin again with the next step, as one that knows nothing.
@@ -238,20 +261,22 @@ impl Worker {
             → self.new.state ≡ record self.old.state { phase = Again; known = nothing_known } }
         ensures rest { (self.old.state.phase ≡ Planning → ⊥) → self.new ≡ self.old }
     {
-        if self.state.phase == Phase::Planning {
-            self.state.known.forget();
-            self.state.phase = Phase::Again;
+        if self.state.state.phase == Phase::Planning {
+            self.state.plan = None;
+            self.state.state.known.forget();
+            self.state.state.phase = Phase::Again;
         }
     }
 
     /// Takes the answer that the last step gave, if it gave one. All that the step gave is told then.
     pub fn take_answer(&mut self) -> Option<CallAnswer>
         ensures result { result ≡ self.old.state.work.answer }
-        ensures rest { self.new.state ≡ told self.old.state }
+        ensures rest { self.new.state ≡ reported self.old.state }
         ensures fits { (core : CoreState) → Fits self.old core → Fits self.new core }
     {
-        self.state.work.entry = LastEntry::none();
-        self.state.work.answer.take()
+        self.state.plan = None;
+        self.state.state.work.entry = LastEntry::none();
+        self.state.state.work.answer.take()
     }
 
     /// Ends the worker, and gives back what it has begun: its transaction, and the read that is due or was
@@ -259,12 +284,13 @@ impl Worker {
     /// have.
     pub fn end(self, core: &mut Core<Done>)
         ensures frame { SameFrame core.old core.new }
-        ensures ended { IsOutAlone self.state core.old → core.new.out ≡ [] }
+        ensures ended { IsSingleOut self.state core.old → core.new.out ≡ [] }
         ensures fetches { FetchesOnly self.state.begun.io core.old → FetchesOnly None core.new }
         ensures idle { self.state.phase ≡ Idle → core.new ≡ core.old }
         ensures gives_back { GivesAllBack self.state.begun core.old core.new }
     {
         let Worker { state } = self;
+        let Prepared { state, plan: _ } = state;
         let State {
             phase: _,
             work,

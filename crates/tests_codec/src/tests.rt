@@ -4,8 +4,8 @@
 use bytes::Bytes;
 use nfs_client_codec::{decode_reply, encode_call};
 use nfs_codec::decode_call;
-use nfs_results::{encode_mount_reply, encode_reply};
-use nfs_types::{ProgramCall, ProgramProcedure, ProgramReply};
+use nfs_results::{encode_into, encode_reply, put_mount_reply, reply_len};
+use nfs_types::{ProgramCall, ProgramProcedure, ProgramReply, Reply};
 use std::alloc::{AllocError, Global};
 use std::test::Fail;
 use tests_vectors::procedures::*;
@@ -52,14 +52,33 @@ fn is_call(
 fn is_result(alloc: Global, reply: &ProgramReply, bytes: &[u8]) -> bool {
     match reply {
         ProgramReply::Nfs(reply) => match encode_reply(alloc, reply) {
-            Ok(out) => out.as_slice() == bytes,
+            Ok(out) => out.as_slice() == bytes && is_counted(alloc, reply, bytes),
             Err(_) => false,
         },
-        ProgramReply::Mount(reply) => match encode_mount_reply(Writer::new(alloc), reply) {
-            Ok(out) => out.as_slice() == bytes,
-            Err(_) => false,
-        },
+        ProgramReply::Mount(reply) => {
+            let mut out = Writer::new(alloc);
+            match put_mount_reply(&mut out, reply) {
+                Ok(()) => out.as_slice() == bytes,
+                Err(_) => false,
+            }
+        }
     }
+}
+
+// The length of a reply is known before it is written, and then it is written without further memory.
+fn is_counted(alloc: Global, reply: &Reply, bytes: &[u8]) -> bool {
+    let Some(length) = reply_len(alloc, reply) else {
+        return false;
+    };
+    let Ok(room) = Vec::with_capacity(alloc, length) else {
+        return false;
+    };
+    if length == usize::MAX {
+        return false;
+    }
+    let mut out = Writer::behind(room);
+    encode_into(reply, &mut out);
+    length == bytes.len() && out.as_slice() == bytes
 }
 
 fn is_reply(

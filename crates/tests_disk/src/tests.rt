@@ -1,12 +1,12 @@
 //! What no contract says: that calls succeed, what is asked of a file, and that a file of the system answers
 //! as a device does.
 mod asked;
+mod enough_memory;
 mod extents;
 mod fake;
 mod files;
 mod order;
 mod ports;
-mod room;
 
 ghost use Rattle.std.specs.Prelude.{IfOk};
 ghost use Rattle.disk.specs.Blocks.{AreBlocks};
@@ -78,9 +78,9 @@ fn written(alloc: Global) -> Result<MemDisk, Fail>
 // The first bytes of the newest contents of the three blocks.
 fn first_bytes(disk: &MemDisk) -> [u8; 3] {
     let mut bytes = [0; 3];
-    for (byte, place) in bytes.iter_mut().zip([LOG, HOME, OTHER]) {
-        if place.0 < disk.blocks() {
-            *byte = disk.newest(place).as_slice()[0];
+    for (byte, tested_block) in bytes.iter_mut().zip([LOG, HOME, OTHER]) {
+        if tested_block.0 < disk.blocks() {
+            *byte = disk.newest(tested_block).as_slice()[0];
         }
     }
     bytes

@@ -1,4 +1,4 @@
-//! Planners beside plans that begin anew, on images in memory. No crate stands on this one.
+//! Planners beside plans that restart, on images in memory. No crate stands on this one.
 #![tactic(auto)]
 
 #[cfg(test)]

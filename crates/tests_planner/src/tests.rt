@@ -1,6 +1,6 @@
 //! The rows, and what runs them. The page README.md says what they ask.
 
-mod beside;
+mod double_indirect;
 mod edges;
-mod far;
 mod lives;
+mod restarts;

@@ -2,14 +2,14 @@
 
 mod bench;
 mod counts;
+mod fake_changes;
 mod refused_memory;
 mod rows;
 mod sizes;
-mod toys;
 mod whole;
 
 use crate::tests::bench::{Bench, Ended, Step};
-use crate::tests::toys::{At, change_of};
+use crate::tests::fake_changes::{At, change_of};
 use disk::CrashDisk;
 use std::test::Fail;
 

@@ -18,8 +18,8 @@ use Rattle.circ.specs.Log.Log.{Log, installed_place}
 use Rattle.txn_law.specs.Commit.{Planned, footprint, with_record}
 use Rattle.txn_law.specs.Core.{past}
 use Rattle.txn_law.specs.Holds.{is_taken, is_read, is_hold_of, hold_of, without_hold, joined, with_hold, released}
-use Rattle.txn_law.specs.Records.{lies_in, is_kept, is_needed, swept}
-use Rattle.txn_law.specs.Tidy.{AreApart, AreBeside}
+use Rattle.txn_law.specs.Records.{lies_in, is_read_by_uninstalled, is_needed, swept}
+use Rattle.txn_law.specs.WellFormed.{AreApart, AreCompatible}
 use Rattle.txn_law.specs.Window.{Footprint}
 use Rattle.txn_law.specs.declared.hold.Hold.{Hold}
 use Rattle.txn_law.proofs.Claims.{all_four}
@@ -80,8 +80,8 @@ taken_is holds at =
     any_total (λ (hold : Hold). nat_eq hold.addr.block.0 at.0) (λ (hold : Hold). once_at hold.addr.block at)
     (λ hold. once_some hold.addr.block at) holds
 
-pub kept_is : (records : List Footprint) (at : BlockNo) → is_kept records at ≡ nat_lt 0 (reads_in records at)
-kept_is records at =
+pub read_by_uninstalled_is : (records : List Footprint) (at : BlockNo) → is_read_by_uninstalled records at ≡ nat_lt 0 (reads_in records at)
+read_by_uninstalled_is records at =
     any_total (λ (kept : Footprint). lies_in kept.read at) (λ (kept : Footprint). objects_in kept.read at)
     (λ kept. any_total (λ (object : ObjectBytes). nat_eq object.addr.block.0 at.0)
     (λ (object : ObjectBytes). once_at object.addr.block at) (λ object. once_some object.addr.block at) kept.read)
@@ -93,17 +93,17 @@ pub wanted_is : (holds : List Hold) (records : List Footprint) (pins : BlockNo �
     → is_wanted pins resident ≡ is_needed holds records resident
 wanted_is holds records pins counted resident =
     ap (λ t. is_none resident.content || t) (each resident.block)
-    ∙ or_assoc (is_none resident.content) (is_taken holds resident.block) (is_kept records resident.block)
+    ∙ or_assoc (is_none resident.content) (is_taken holds resident.block) (is_read_by_uninstalled records resident.block)
   where
     or_assoc : (u a b : Bool) → (u || (a || b)) ≡ ((u || a) || b)
     or_assoc true a b = refl
     or_assoc false a b = refl
 
-    each : (at : BlockNo) → nat_lt 0 (pins at) ≡ (is_taken holds at || is_kept records at)
+    each : (at : BlockNo) → nat_lt 0 (pins at) ≡ (is_taken holds at || is_read_by_uninstalled records at)
     each at =
         ap (nat_lt 0) (counted at) ∙ sym (or_sum (holds_in holds at) (reads_in records at))
         ∙ ap (λ t. t || nat_lt 0 (reads_in records at)) (sym (taken_is holds at))
-        ∙ ap (λ t. is_taken holds at || t) (sym (kept_is records at))
+        ∙ ap (λ t. is_taken holds at || t) (sym (read_by_uninstalled_is records at))
 
 -- so it is what a sweep leaves, besides what is spared
 pub swept_is : (spare : Present → Bool) (holds : List Hold) (records : List Footprint) (pins : BlockNo → ℕ)
@@ -126,9 +126,9 @@ joined_addr None hold = refl
 joined_addr (Some had) hold = refl
 
 -- two holds of a transaction are of two addresses
-not_both : (tx : ℕ) (addr : Addr) (x y : Hold) → AreBeside x y → is_hold_of tx addr x ≡ true
+not_both : (tx : ℕ) (addr : Addr) (x y : Hold) → AreCompatible x y → is_hold_of tx addr x ≡ true
     → is_hold_of tx addr y ≡ true → ⊥
-not_both tx addr x y beside one other =
+not_both tx addr x y compatible one other =
     let a = all_four (nat_eq x.transaction tx) (nat_eq x.addr.block.0 addr.block.0)
     (nat_eq x.addr.offset addr.offset) (nat_eq x.addr.len addr.len) one in
     let b = all_four (nat_eq y.transaction tx) (nat_eq y.addr.block.0 addr.block.0)
@@ -137,7 +137,7 @@ not_both tx addr x y beside one other =
     same_block x.addr.block y.addr.block (eqb-true x.addr.block.0 addr.block.0 a.1
     ∙ sym (eqb-true y.addr.block.0 addr.block.0 b.1)) in
     let from = eqb-true x.addr.offset addr.offset a.2 ∙ sym (eqb-true y.addr.offset addr.offset b.2) in
-    beside (block, omega (arith, from, y.addr.some), omega (arith, from, x.addr.some))
+    compatible (block, omega (arith, from, y.addr.some), omega (arith, from, x.addr.some))
     (inl (eqb-true x.transaction tx a.0 ∙ sym (eqb-true y.transaction tx b.0)))
 
 abbrev as_one : Bool → ℕ
@@ -172,13 +172,13 @@ module _ (tx : ℕ) (addr : Addr) (at : BlockNo) where
   abbrev counts : Hold → ℕ
   counts hold = if not (own hold) then 0 else once_at hold.addr.block at
 
-  none_later : (x : Hold) (xs : List Hold) → own x ≡ true → All (AreBeside x) xs → total counts xs ≡ 0
+  none_later : (x : Hold) (xs : List Hold) → own x ≡ true → All (AreCompatible x) xs → total counts xs ≡ 0
   none_later x [] mine h = refl
   none_later x (y ∷ ys) mine h =
-      go (own y) refl (none_later x ys mine (All-tail (AreBeside x) y ys h))
+      go (own y) refl (none_later x ys mine (All-tail (AreCompatible x) y ys h))
     where
       go : (t : Bool) → own y ≡ t → total counts ys ≡ 0 → counts y + total counts ys ≡ 0
-      go true e rest = absurd (not_both tx addr x y (All-head (AreBeside x) y ys h) mine e)
+      go true e rest = absurd (not_both tx addr x y (All-head (AreCompatible x) y ys h) mine e)
       go false e rest =
           let none : counts y ≡ 0 = ap (λ t. if not t then 0 else once_at y.addr.block at) e in
           omega (arith, none, rest)

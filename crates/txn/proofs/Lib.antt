@@ -1,12 +1,14 @@
 pub mod ByParts
 pub mod Counted
-pub mod Neat
+pub mod Consistent
 pub mod Logged
 pub mod Renewing
 pub mod Answered
-pub mod FetchedWish
+pub mod FetchedRequest
 pub mod LoneTransaction
 pub mod OtherSteps
 pub mod OwnChange
 pub mod Fewer
 pub mod Sides
+pub mod Ended
+pub mod TakenLaw

@@ -1,6 +1,6 @@
 -- Lemmas: what is in memory of a block that the log has is what the log has.
-use Rattle.std.proofs.Common.{◌≡◌, ◌∙◌, Bool, true, false, if◌then◌else◌, List, [], Option, Some, None, All}
-use Rattle.std.proofs.Common.{ℕ, refl, ap, sym, map, is_none, get_or}
+use Rattle.std.proofs.Common.{◌≡◌, ◌∙◌, true, false, List, [], Option, Some, None, All}
+use Rattle.std.proofs.Common.{ℕ, refl, ap, sym, is_none, get_or}
 use Rattle.std.proofs.lemmas.List.Elements.{All-map, All-weaker}
 use Rattle.disk.specs.Device.{Content}
 use Rattle.disk.specs.declared.block.BlockNo.{BlockNo}
@@ -12,9 +12,9 @@ use Rattle.circ.specs.Log.Log.{Log, newest, or_else, blocks_of as group_blocks}
 use Rattle.txn_law.specs.Commit.{IsOwn, IsWrittenBy, Planned, refreshed_content, refreshed_resident, refreshed}
 use Rattle.txn_law.specs.Core.{CoreState}
 use Rattle.txn_law.specs.Group.{blocks_of, is_among}
-use Rattle.txn_law.proofs.Laid.{among_group, among_after}
-use Rattle.txn_law.proofs.TidyCommit.{none_lies, nothing, once_is}
-use Rattle.txn.specs.Neat.{IsAsLogged}
+use Rattle.txn_law.proofs.OverlaidContent.{among_group, among_after}
+use Rattle.txn_law.proofs.WellFormedCommit.{none_lies, nothing, once_is}
+use Rattle.txn.specs.Consistent.{IsAsLogged}
 use Rattle.txn.specs.Refreshed.{renewed_each}
 use Rattle.txn.proofs.Renewing.{each_newest, map_equal, refreshed_none, with_newest}
 

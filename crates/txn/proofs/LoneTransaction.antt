@@ -13,8 +13,8 @@ use Rattle.objects.specs.declared.mode.Mode.TheVariants as modes
 use Rattle.txn_law.specs.Core.{CoreState}
 use Rattle.txn_law.specs.Holds.{IsHoldOf, is_hold_of, is_written}
 use Rattle.txn_law.specs.Leaves.{is_fetching, taken_by}
-use Rattle.txn_law.specs.Tidy.{AreBeside, AreTidy, IsOfOne}
-use Rattle.txn_law.specs.Wishes.{IsBusy, IsLoading, IsWhole}
+use Rattle.txn_law.specs.WellFormed.{AreCompatible, IsWellFormed, IsOfOne}
+use Rattle.txn_law.specs.LockAnswers.{IsBusy, IsLoading, IsWhole}
 use Rattle.txn_law.specs.declared.hold.Hold.{Hold}
 use Rattle.txn_law.proofs.Again as again
 use Rattle.txn_law.proofs.Others.{found_some}
@@ -22,12 +22,12 @@ use Rattle.txn_law.proofs.TakenBy.{is_hold_by}
 use Rattle.txn.specs.Claimed.{IsClaimedBy}
 use Rattle.txn.proofs.OwnChange.{taken_at}
 
-module _ (core : CoreState) (tx : ℕ) (tidy : AreTidy core) (alone : core.out ≡ tx ∷ []) where
+module _ (core : CoreState) (tx : ℕ) (well_formed : IsWellFormed core) (only_one_out : core.out ≡ tx ∷ []) where
   -- whatever is taken is its own
   mine : (x : Hold) → Contains core.holds x → x.transaction ≡ tx
   mine x there = sym (eqb-true tx x.transaction (first (nat_eq tx x.transaction)
-      (sym (ap (λ (out : List ℕ). list_any (λ other. nat_eq other x.transaction) out) alone)
-      ∙ (All-contains (IsOfOne core) core.holds x tidy.owned there).0)))
+      (sym (ap (λ (out : List ℕ). list_any (λ other. nat_eq other x.transaction) out) only_one_out)
+      ∙ (All-contains (IsOfOne core) core.holds x well_formed.owned there).0)))
     where
       first : (b : Bool) → (b || false) ≡ true → b ≡ true
       first true is = refl
@@ -61,12 +61,12 @@ module _ (core : CoreState) (tx : ℕ) (tidy : AreTidy core) (alone : core.out �
           one : (other : Addr) (more : Hold) → taken_by core tx other ≡ Some more → Overlap other addr
               → other ≡ addr
           one other more taken over =
-              let a = taken_at core tx tidy addr hold is in
-              let b = taken_at core tx tidy other more taken in
-              go a b (again.one_or_apart core.holds more hold tidy.apart b.0 a.0)
+              let a = taken_at core tx well_formed addr hold is in
+              let b = taken_at core tx well_formed other more taken in
+              go a b (again.one_or_apart core.holds more hold well_formed.apart b.0 a.0)
             where
               go : Contains core.holds hold × (hold.addr ≡ addr) → Contains core.holds more × (more.addr ≡ other)
-                  → (more ≡ hold) ⊎ AreBeside more hold → other ≡ addr
+                  → (more ≡ hold) ⊎ AreCompatible more hold → other ≡ addr
               go a b (inl same) = sym b.1 ∙ ap (λ (h : Hold). h.addr) same ∙ a.1
               go a b (inr apart) = absurd (apart (subst (λ (at : Addr). Overlap more.addr at) (sym a.1)
                   (subst (λ (at : Addr). Overlap at addr) (sym b.1) over))

@@ -11,17 +11,17 @@ use Rattle.circ.specs.Log.Log.{newest}
 use Rattle.circ.specs.Log.Overlay.{content_or}
 use Rattle.txn_law.specs.Commit.{Planned, refreshed_content}
 use Rattle.txn_law.specs.Core.{CoreState, IsOut, with_begun, without}
-use Rattle.txn_law.specs.CoreWindow.{KeepsReads}
+use Rattle.txn_law.specs.CoreWindow.{PreservesReads}
 use Rattle.txn_law.specs.Fetch.{Fetch}
 use Rattle.txn_law.specs.Holds.{for_fetching, for_reading, for_writing, is_hold_of, joined}
 use Rattle.txn_law.specs.Leaves.{Leaves, but_by, in_memory, is_fetching, taken_by, with_content, with_fetch}
 use Rattle.txn_law.specs.Leaves.{with_taken, without_fetch}
-use Rattle.txn_law.specs.Others.{KeepsTaken}
-use Rattle.txn_law.specs.Wishes.{IsFetched, IsHeld, IsTaken, TakesOnly}
+use Rattle.txn_law.specs.Others.{PreservesTaken}
+use Rattle.txn_law.specs.LockAnswers.{IsFetched, IsHeld, IsTaken, TakesOnly}
 use Rattle.txn_law.specs.declared.hold.Hold.{Hold}
 use Rattle.txn_law.proofs.Claims.{all_four}
-use Rattle.txn_law.proofs.Others.{keeps_by}
-use Rattle.txn_law.proofs.Tidied.{out_still}
+use Rattle.txn_law.proofs.Others.{preserves_by}
+use Rattle.txn_law.proofs.StaysWellFormed.{out_still}
 use Rattle.txn.specs.Outcomes.{IsClaimed, IsCommit, IsWanted, TakesPlace}
 use Rattle.txn.specs.declared.outcomes.Claim.{Claim}
 use Rattle.txn.specs.declared.outcomes.Claim.TheVariants as claim
@@ -31,8 +31,8 @@ use Rattle.txn.specs.declared.outcomes.Want.{Want}
 use Rattle.txn.specs.declared.outcomes.Want.TheVariants as want
 
 -- nothing changes
-pub keeps_same : (old new : CoreState) (t : ℕ) → new ≡ old → KeepsTaken old new t
-keeps_same old new t same = subst (λ (core : CoreState). KeepsTaken old core t) (sym same) (record {
+pub preserves_same : (old new : CoreState) (t : ℕ) → new ≡ old → PreservesTaken old new t
+preserves_same old new t same = subst (λ (core : CoreState). PreservesTaken old core t) (sym same) (record {
   out = λ is. is;
   taken = λ addr. refl;
   reads = λ object is. is;
@@ -43,9 +43,9 @@ keeps_same old new t same = subst (λ (core : CoreState). KeepsTaken old core t)
 
 module _ (old : CoreState) (tx t : ℕ) (differ : t ≡ tx → ⊥) where
   -- it isn't changed by what is taken,
-  beside_hold : (hold : Hold) → hold.transaction ≡ tx → (addr : Addr)
+  unaffected_by_hold : (hold : Hold) → hold.transaction ≡ tx → (addr : Addr)
       → with_taken hold (taken_by old) t addr ≡ taken_by old t addr
-  beside_hold hold mine addr = by (is_hold_of t addr hold) refl
+  unaffected_by_hold hold mine addr = by (is_hold_of t addr hold) refl
     where
       by : (own : Bool) → is_hold_of t addr hold ≡ own
           → (if own then Some (joined (taken_by old t addr) hold) else taken_by old t addr) ≡ taken_by old t addr
@@ -56,8 +56,8 @@ module _ (old : CoreState) (tx t : ℕ) (differ : t ≡ tx → ⊥) where
           absurd (differ (sym (eqb-true hold.transaction t four.0) ∙ mine))
 
   -- nor by what is let go
-  beside_end : (addr : Addr) → but_by tx (taken_by old) t addr ≡ taken_by old t addr
-  beside_end addr = ap (λ (b : Bool). if b then None else taken_by old t addr) (ne_eqb t tx differ)
+  unaffected_by_end : (addr : Addr) → but_by tx (taken_by old) t addr ≡ taken_by old t addr
+  unaffected_by_end addr = ap (λ (b : Bool). if b then None else taken_by old t addr) (ne_eqb t tx differ)
 
   -- and the transaction is still out
   still_out : IsOut old t → IsOut (record old { out = without tx old.out }) t
@@ -85,75 +85,75 @@ refreshed_there (Some c) logged content is = (content_or logged c, refl)
 
 -- ---- each step
 
-module _ (old new : CoreState) (tx t : ℕ) (differ : t ≡ tx → ⊥) (reads : KeepsReads old new t) where
+module _ (old new : CoreState) (tx t : ℕ) (differ : t ≡ tx → ⊥) (reads : PreservesReads old new t) where
   out_by : TakesOnly old new → IsOut old t → IsOut new t
   out_by only is = subst (λ (core : CoreState). IsOut core t) (sym only) is
 
   pub by_held : (addr : Addr) (mode : Mode) (bytes : List ℕ) → IsHeld old tx addr mode bytes new
-      → KeepsTaken old new t
+      → PreservesTaken old new t
   by_held addr mode bytes held =
-      keeps_by old new t (with_taken (for_reading tx addr mode) (taken_by old)) (is_fetching old)
+      preserves_by old new t (with_taken (for_reading tx addr mode) (taken_by old)) (is_fetching old)
       (with_content addr.block held.content (in_memory old)) held.leaves
-      (beside_hold old tx t differ (for_reading tx addr mode) refl)
+      (unaffected_by_hold old tx t differ (for_reading tx addr mode) refl)
       (stays_with old addr.block held.content) (out_by held.only) reads
 
   pub by_fetch : (addr : Addr) (mode : Mode) (io : Fetch) → IsFetched old tx addr mode io new
-      → KeepsTaken old new t
+      → PreservesTaken old new t
   by_fetch addr mode io is =
-      keeps_by old new t (with_taken (for_fetching tx addr mode) (taken_by old))
+      preserves_by old new t (with_taken (for_fetching tx addr mode) (taken_by old))
       (with_fetch addr.block (is_fetching old)) (in_memory old) is.leaves
-      (beside_hold old tx t differ (for_fetching tx addr mode) refl) (stays_there old) (out_by is.only) reads
+      (unaffected_by_hold old tx t differ (for_fetching tx addr mode) refl) (stays_there old) (out_by is.only) reads
 
-  pub by_claim : (addr : Addr) → IsTaken old tx addr new → KeepsTaken old new t
+  pub by_claim : (addr : Addr) → IsTaken old tx addr new → PreservesTaken old new t
   by_claim addr is =
-      keeps_by old new t (with_taken (for_writing tx addr) (taken_by old)) (is_fetching old) (in_memory old)
-      is.leaves (beside_hold old tx t differ (for_writing tx addr) refl) (stays_there old) (out_by is.only) reads
+      preserves_by old new t (with_taken (for_writing tx addr) (taken_by old)) (is_fetching old) (in_memory old)
+      is.leaves (unaffected_by_hold old tx t differ (for_writing tx addr) refl) (stays_there old) (out_by is.only) reads
 
   pub by_want : (addr : Addr) (mode : Mode) (answer : Want) → IsWanted old tx addr mode answer new
-      → KeepsTaken old new t
+      → PreservesTaken old new t
   by_want addr mode (want.Held back bytes) is = by_held addr mode bytes is.2
   by_want addr mode (want.Fetch back io) is = by_fetch addr mode io is.2
-  by_want addr mode (want.Busy back) is = keeps_same old new t is.2
-  by_want addr mode (want.Loading back) is = keeps_same old new t is.2
-  by_want addr mode (want.Outside back) is = keeps_same old new t is.2
-  by_want addr mode (want.NoMemory back) is = keeps_same old new t is.2
+  by_want addr mode (want.Busy back) is = preserves_same old new t is.2
+  by_want addr mode (want.Loading back) is = preserves_same old new t is.2
+  by_want addr mode (want.Outside back) is = preserves_same old new t is.2
+  by_want addr mode (want.NoMemory back) is = preserves_same old new t is.2
 
-  pub by_claimed : (addr : Addr) (answer : Claim) → IsClaimed old tx addr answer new → KeepsTaken old new t
+  pub by_claimed : (addr : Addr) (answer : Claim) → IsClaimed old tx addr answer new → PreservesTaken old new t
   by_claimed addr (claim.Held back) is = by_claim addr is.2
-  by_claimed addr (claim.Busy back) is = keeps_same old new t is.2
-  by_claimed addr (claim.Loading back) is = keeps_same old new t is.2
-  by_claimed addr (claim.Outside back) is = keeps_same old new t is.2
-  by_claimed addr (claim.NoMemory back) is = keeps_same old new t is.2
+  by_claimed addr (claim.Busy back) is = preserves_same old new t is.2
+  by_claimed addr (claim.Loading back) is = preserves_same old new t is.2
+  by_claimed addr (claim.Outside back) is = preserves_same old new t is.2
+  by_claimed addr (claim.NoMemory back) is = preserves_same old new t is.2
 
   pub by_end : new.out ≡ without tx old.out
-      → Leaves new (but_by tx (taken_by old)) (is_fetching old) (in_memory old) → KeepsTaken old new t
+      → Leaves new (but_by tx (taken_by old)) (is_fetching old) (in_memory old) → PreservesTaken old new t
   by_end out leaves =
-      keeps_by old new t (but_by tx (taken_by old)) (is_fetching old) (in_memory old) leaves
-      (beside_end old tx t differ) (stays_there old)
+      preserves_by old new t (but_by tx (taken_by old)) (is_fetching old) (in_memory old) leaves
+      (unaffected_by_end old tx t differ) (stays_there old)
       (λ is. ap (λ (out : List ℕ). list_any (λ other. nat_eq other t) out) out ∙ still_out old tx t differ is)
       reads
 
-  pub by_place : (plan : Planned) (place : ℕ) → TakesPlace old tx plan place new → KeepsTaken old new t
+  pub by_place : (plan : Planned) (place : ℕ) → TakesPlace old tx plan place new → PreservesTaken old new t
   by_place plan place took =
-      keeps_by old new t (but_by tx (taken_by old)) (is_fetching old)
+      preserves_by old new t (but_by tx (taken_by old)) (is_fetching old)
       (λ block. refreshed_content (in_memory old block) (newest new.log block.0)) took.leaves
-      (beside_end old tx t differ)
+      (unaffected_by_end old tx t differ)
       (λ block content here. refreshed_there (in_memory old block) (newest new.log block.0) content here)
       (λ is. ap (λ (core : CoreState). list_any (λ other. nat_eq other t) core.out) took.only
       ∙ still_out old tx t differ is) reads
 
   pub by_commit : (C : Type 0) (plan : Planned) (change : C) (answer : Commit C)
-      → IsCommit old tx plan change answer new → KeepsTaken old new t
+      → IsCommit old tx plan change answer new → PreservesTaken old new t
   by_commit C plan change (commit.Committed receipt) is = by_place plan receipt.place.0 is
-  by_commit C plan change (commit.Full back same) is = keeps_same old new t is.0.core
-  by_commit C plan change (commit.Foreign back same) is = keeps_same old new t is.0.core
-  by_commit C plan change (commit.NoMemory back same) is = keeps_same old new t is.0.core
-  by_commit C plan change (commit.Broken back same) is = keeps_same old new t is.0.core
-  by_commit C plan change (commit.Spent back same) is = keeps_same old new t is.0.core
+  by_commit C plan change (commit.Full back same) is = preserves_same old new t is.0.core
+  by_commit C plan change (commit.Foreign back same) is = preserves_same old new t is.0.core
+  by_commit C plan change (commit.NoMemory back same) is = preserves_same old new t is.0.core
+  by_commit C plan change (commit.Broken back same) is = preserves_same old new t is.0.core
+  by_commit C plan change (commit.Spent back same) is = preserves_same old new t is.0.core
 
 -- a transaction is begun, and a fetch is given back, by whomever
-module _ (old new : CoreState) (t : ℕ) (reads : KeepsReads old new t) where
-  pub by_begin : new ≡ with_begun old → KeepsTaken old new t
+module _ (old new : CoreState) (t : ℕ) (reads : PreservesReads old new t) where
+  pub by_begin : new ≡ with_begun old → PreservesTaken old new t
   by_begin is = record {
     out = λ out. ap (λ (core : CoreState). list_any (λ other. nat_eq other t) core.out) is
         ∙ or_right (nat_eq (old.begun + 1) t) (list_any (λ other. nat_eq other t) old.out) out;
@@ -166,9 +166,9 @@ module _ (old new : CoreState) (t : ℕ) (reads : KeepsReads old new t) where
   pub by_fetched : (block : BlockNo) (content : Content) → new.out ≡ old.out
       → Leaves new (taken_by old) (without_fetch block (is_fetching old))
       (if is_fetching old block then with_content block content (in_memory old) else in_memory old)
-      → KeepsTaken old new t
+      → PreservesTaken old new t
   by_fetched block content out leaves =
-      keeps_by old new t (taken_by old) (without_fetch block (is_fetching old))
+      preserves_by old new t (taken_by old) (without_fetch block (is_fetching old))
       (if is_fetching old block then with_content block content (in_memory old) else in_memory old) leaves
       (λ addr. refl) (λ at c here. by (is_fetching old block) at c here)
       (λ is. ap (λ (out : List ℕ). list_any (λ other. nat_eq other t) out) out ∙ is) reads
@@ -180,8 +180,8 @@ module _ (old new : CoreState) (t : ℕ) (reads : KeepsReads old new t) where
       by false at c here = (c, here)
 
   pub by_failed : (block : BlockNo) → new.out ≡ old.out
-      → Leaves new (taken_by old) (without_fetch block (is_fetching old)) (in_memory old) → KeepsTaken old new t
+      → Leaves new (taken_by old) (without_fetch block (is_fetching old)) (in_memory old) → PreservesTaken old new t
   by_failed block out leaves =
-      keeps_by old new t (taken_by old) (without_fetch block (is_fetching old)) (in_memory old) leaves
+      preserves_by old new t (taken_by old) (without_fetch block (is_fetching old)) (in_memory old) leaves
       (λ addr. refl) (stays_there old)
       (λ is. ap (λ (out : List ℕ). list_any (λ other. nat_eq other t) out) out ∙ is) reads

@@ -16,12 +16,12 @@ use Rattle.txn_law.specs.Group.{blocks_after, is_among}
 use Rattle.txn_law.specs.Holds.{hold_of, is_hold_of, is_read, is_written}
 use Rattle.txn_law.specs.Leaves.{is_fetching, taken_by}
 use Rattle.objects.specs.Object.{ObjectBytes}
-use Rattle.txn_law.specs.Tidy.{AreTidy, IsOfOne}
+use Rattle.txn_law.specs.WellFormed.{IsWellFormed, IsOfOne}
 use Rattle.txn_law.specs.declared.hold.Hold.{Hold}
 use Rattle.txn_law.proofs.Again as again
 use Rattle.txn_law.proofs.Claims.{all_four, found_by}
 use Rattle.txn_law.proofs.Swept.{in_first, in_more}
-use Rattle.txn.specs.Claimed.{IsAmongRead, IsOwnObject, IsTakenAlone}
+use Rattle.txn.specs.Claimed.{IsAmongRead, IsOwnObject, IsTakenExclusive}
 
 -- what holds of the blocks of all objects holds of the group's
 pub blocks_all : (P : BlockNo → Type 0) (blocks : List BlockNo) (objects : List ObjectBytes) → All P blocks
@@ -36,7 +36,7 @@ blocks_all P blocks (o ∷ os) all each =
     by true = all
     by false = All-push P blocks o.addr.block all (each o (in_first o o os refl))
 
-module _ (core : CoreState) (tx : ℕ) (tidy : AreTidy core) where
+module _ (core : CoreState) (tx : ℕ) (well_formed : IsWellFormed core) where
   -- what it has taken is among the holds, by its address
   pub taken_at : (addr : Addr) (hold : Hold) → taken_by core tx addr ≡ Some hold
       → Contains core.holds hold × (hold.addr ≡ addr)
@@ -55,7 +55,7 @@ module _ (core : CoreState) (tx : ℕ) (tidy : AreTidy core) where
   taken_home addr hold taken =
       let at = taken_at addr hold taken in
       subst (λ (a : Addr). IsHomeOn core.log.blocks a.block) at.1
-      (All-contains (IsOfOne core) core.holds hold tidy.owned at.0).1
+      (All-contains (IsOfOne core) core.holds hold well_formed.owned at.0).1
 
   -- what it read and holds alone, and what it has claimed, it holds for writing
   module _ (objects : List ObjectBytes) (read : All (IsReadBy core tx) objects) where
@@ -64,9 +64,9 @@ module _ (core : CoreState) (tx : ℕ) (tidy : AreTidy core) where
     is_written_so mode reads claims at by = ap (λ m. is_exclusive m && (reads || claims)) at
         ∙ ap (λ b. b || claims) by
 
-    by_read : (object : ObjectBytes) → IsAmongRead objects object → IsTakenAlone core tx object.addr
+    by_read : (object : ObjectBytes) → IsAmongRead objects object → IsTakenExclusive core tx object.addr
         → is_written (taken_by core tx object.addr) ≡ true
-    by_read object before alone = from (taken_by core tx object.addr) refl
+    by_read object before hold_exclusive = from (taken_by core tx object.addr) refl
         (subst (λ (a : Addr). is_read (hold_of core.holds tx a) ≡ true) before.2
         (All-contains (IsReadBy core tx) objects before.0 read before.1).held)
       where
@@ -74,7 +74,7 @@ module _ (core : CoreState) (tx : ℕ) (tidy : AreTidy core) where
             → is_written found ≡ true
         from None is none = absurd (true≢false (sym none))
         from (Some hold) is reads =
-            is_written_so hold.mode hold.is_read hold.is_claimed (alone hold is) reads
+            is_written_so hold.mode hold.is_read hold.is_claimed (hold_exclusive hold is) reads
 
     pub held_by : (object : ObjectBytes) → IsOwnObject core tx objects object
         → is_written (taken_by core tx object.addr) ≡ true

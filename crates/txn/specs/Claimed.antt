@@ -7,12 +7,12 @@ use Rattle.txn_law.specs.Core.{CoreState}
 use Rattle.txn_law.specs.Holds.{is_written}
 use Rattle.txn_law.specs.Leaves.{taken_by}
 use Rattle.objects.specs.Object.{ObjectBytes}
-use Rattle.txn_law.specs.Wishes.{IsWhole}
+use Rattle.txn_law.specs.LockAnswers.{IsWhole}
 use Rattle.txn_law.specs.declared.hold.Hold.{Hold}
 
 -- what the transaction has taken of the address it has taken alone
-abbrev pub IsTakenAlone : CoreState → ℕ → Addr → Type 0
-IsTakenAlone core tx addr = (hold : Hold) → taken_by core tx addr ≡ Some hold → hold.mode ≡ modes.Exclusive
+abbrev pub IsTakenExclusive : CoreState → ℕ → Addr → Type 0
+IsTakenExclusive core tx addr = (hold : Hold) → taken_by core tx addr ≡ Some hold → hold.mode ≡ modes.Exclusive
 
 -- the transaction holds the whole block for writing
 abbrev pub IsClaimedBy : CoreState → ℕ → BlockNo → Type 0
@@ -29,5 +29,5 @@ IsAmongRead read object = (before : ObjectBytes) × Contains read before × (bef
 -- what a change may write that read these: an object that it read, and that the transaction has taken alone, or a
 -- whole block that this has claimed
 abbrev pub IsOwnObject : CoreState → ℕ → List ObjectBytes → ObjectBytes → Type 0
-IsOwnObject core tx read object = (IsAmongRead read object × IsTakenAlone core tx object.addr)
+IsOwnObject core tx read object = (IsAmongRead read object × IsTakenExclusive core tx object.addr)
     ⊎ IsClaimedObject core tx object

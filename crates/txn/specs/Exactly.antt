@@ -1,9 +1,9 @@
--- What the answers of the private state say: as those of the core, and exactly what they make of its lists.
+-- What the private answers of the core say: as its others, and exactly what they make of its lists.
 use Rattle.std.specs.Prelude.{◌≡◌, ℕ, ◌+◌, Bool}
 use Rattle.objects.specs.declared.addr.Addr.{Addr}
 use Rattle.objects.specs.declared.mode.Mode.{Mode}
 use Rattle.objects.specs.declared.present.Present.{Present}
-use Rattle.circ.specs.Log.Calls.{KeepsAgreement}
+use Rattle.circ.specs.Log.Calls.{PreservesAgreement}
 use Rattle.circ.specs.Log.Grows.{StandsStill}
 use Rattle.circ.specs.declared.log.outcomes.Room.TheVariants as room
 use Rattle.txn_law.specs.Commit.{Planned, committed}
@@ -33,7 +33,7 @@ pub record TakesPlaceExactly (old : CoreState) (tx : ℕ) (plan : Planned) (plac
   -- which blocks stay in memory besides those that are needed
   pub spare : Present → Bool
   pub core : new ≡ committed spare old tx plan new.log
-  pub law : KeepsAgreement old.log new.log
+  pub law : PreservesAgreement old.log new.log
 
 abbrev pub IsCommitExactly : {C : Type 0} → CoreState → ℕ → Planned → C → Commit C → CoreState → Type 0
 IsCommitExactly old tx plan change answer new =

@@ -5,7 +5,7 @@ pub mod Exactly
 pub mod Source
 pub mod Claimed
 pub mod Pinned
-pub mod Neat
+pub mod Consistent
 pub mod Refreshed
 pub mod Sides
 pub mod Unneeded
@@ -20,12 +20,12 @@ pub use Rattle.txn_law.specs.Core
 pub use Rattle.txn_law.specs.CoreWindow
 pub use Rattle.txn_law.specs.Leaves
 pub use Rattle.txn_law.specs.Fetch
-pub use Rattle.txn_law.specs.Wishes
+pub use Rattle.txn_law.specs.LockAnswers
 pub use Rattle.txn_law.specs.Lists
 pub use Rattle.txn_law.specs.Fetched
 pub use Rattle.txn_law.specs.Steps
 pub use Rattle.txn_law.specs.Commit
 pub use Rattle.txn_law.specs.HomeRead
-pub use Rattle.txn_law.specs.Tidy
+pub use Rattle.txn_law.specs.WellFormed
 pub use Rattle.txn_law.specs.CoreLaw
 pub use Rattle.txn_law.specs.Others

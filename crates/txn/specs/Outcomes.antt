@@ -8,7 +8,7 @@ use Rattle.objects.specs.declared.mode.Mode.{Mode}
 use Rattle.objects.specs.declared.mode.Mode.TheVariants as modes
 use Rattle.circ.specs.Log.Log.{newest, blocks_of as group_blocks}
 use Rattle.circ.specs.Log.Room.{IsRoom}
-use Rattle.circ.specs.Log.Calls.{KeepsAgreement}
+use Rattle.circ.specs.Log.Calls.{PreservesAgreement}
 use Rattle.circ.specs.Log.Effects.{HasAppended}
 use Rattle.circ.specs.Log.Grows.{GrowsBy, StandsStill}
 use Rattle.circ.specs.declared.log.outcomes.Room.{Room}
@@ -17,9 +17,9 @@ use Rattle.txn_law.specs.Commit.{Planned, IsOwn, with_record, refreshed_content}
 use Rattle.txn_law.specs.Core.{CoreState, without}
 use Rattle.txn_law.specs.CoreWindow.{SetsOnly}
 use Rattle.txn_law.specs.Fetch.{Fetch}
-use Rattle.txn_law.specs.Group.{blocks_of, IsLaid}
+use Rattle.txn_law.specs.Group.{blocks_of, IsOverlaid}
 use Rattle.txn_law.specs.Leaves.{Leaves, taken_by, is_fetching, in_memory, but_by}
-use Rattle.txn_law.specs.Wishes.{IsOpen, IsOutside, IsBusy, IsLoading, IsHeld, IsFetched, IsTaken}
+use Rattle.txn_law.specs.LockAnswers.{IsOpen, IsOutside, IsBusy, IsLoading, IsHeld, IsFetched, IsTaken}
 use Rattle.txn.specs.declared.outcomes.Want.{Want}
 use Rattle.txn.specs.declared.outcomes.Want.TheVariants as want
 use Rattle.txn.specs.declared.outcomes.Claim.{Claim}
@@ -27,7 +27,7 @@ use Rattle.txn.specs.declared.outcomes.Claim.TheVariants as claim
 use Rattle.txn.specs.declared.outcomes.Commit.{Commit}
 use Rattle.txn.specs.declared.outcomes.Commit.TheVariants as commit
 
--- What came of a wish to read an object, by what is left where it is held and where it is to be fetched: the
+-- What came of a lock request to read an object, by what is left where it is held and where it is to be fetched: the
 -- transaction comes back, and each refusal has its cause and changes nothing.
 abbrev pub IsWantedWith : (List ℕ → Type 0) → (Fetch → Type 0) → CoreState → ℕ → Addr → Mode → Want → CoreState
     → Type 0
@@ -49,7 +49,7 @@ IsWanted old tx addr mode answer new =
     IsWantedWith (λ bytes. IsHeld old tx addr mode bytes new) (λ io. IsFetched old tx addr mode io new)
     old tx addr mode answer new
 
--- the wish was met, or there was no memory for it
+-- the request was met, or there was no memory for it
 abbrev pub IsMet : Want → Type 0
 IsMet (want.Held back bytes) = Unit {0}
 IsMet (want.NoMemory back) = Unit {0}
@@ -67,7 +67,7 @@ IsWithin blocks len (want.Loading back) = Unit {0}
 IsWithin blocks len (want.Outside back) = Unit {0}
 IsWithin blocks len (want.NoMemory back) = Unit {0}
 
--- what came of a wish to write a whole block, alone, by what is left where it is held: as of a wish to read
+-- what came of a lock request to write a whole block, alone, by what is left where it is held: as of a lock request to read
 -- it, but that nothing is fetched
 abbrev pub IsClaimedWith : Type 0 → CoreState → ℕ → Addr → Claim → CoreState → Type 0
 IsClaimedWith held old tx addr (claim.Held back) new = (back ≡ tx) × IsOpen old tx addr modes.Exclusive × held
@@ -86,14 +86,14 @@ IsClaimed old tx addr answer new = IsClaimedWith (IsTaken old tx addr new) old t
 pub record IsTried (core : CoreState) (tx : ℕ) (plan : Planned) (found : Room) : Type 0 where
   pub sound : core.log.broken ≡ false
   pub own : IsOwn core tx plan
-  pub room : IsRoom core.log (blocks_of plan.written) found
+  pub log_space : IsRoom core.log (blocks_of plan.written) found
 
 -- a commit brought the log a group: each block that the change writes, once, with its objects laid over its
 -- current content
 pub record BringsGroup (old : CoreState) (plan : Planned) (new : CoreState) : Type 0 where
   pub group : List (BlockNo × Content)
   pub blocks : group_blocks group ≡ blocks_of plan.written
-  pub contents : All (IsLaid old.present old.log plan.written) group
+  pub contents : All (IsOverlaid old.present old.log plan.written) group
   pub whole : All (λ change. length change.1 ≡ BLOCK_BYTES) group
   pub sizes : All (λ object. length object.bytes ≡ object.addr.len) plan.written
   pub seen : HasAppended old.log group new.log
@@ -116,7 +116,7 @@ pub record TakesPlace (old : CoreState) (tx : ℕ) (plan : Planned) (place : ℕ
   }
   pub leaves : Leaves new (but_by tx (taken_by old)) (is_fetching old)
       (λ block. refreshed_content (in_memory old block) (newest new.log block.0))
-  pub law : KeepsAgreement old.log new.log
+  pub law : PreservesAgreement old.log new.log
 
 -- a commit was refused: nothing has changed, and the transaction and its change come back
 pub record IsRefused {C : Type 0} (old : CoreState) (tx : ℕ) (change : C) (back : ℕ) (same : C)

@@ -1,10 +1,12 @@
 -- How often each block is pinned: once for each hold of a part of it, and once for each object that a kept commit
 -- read in it.
-use Rattle.std.specs.Prelude.{ℕ, ◌+◌, ◌<◌, ◌^◌, if◌then◌else◌, List, [], ◌∷◌, All, length, map, nat_eq, not}
-use Rattle.std.specs.Prelude.{is_some}
+use Rattle.std.specs.Prelude.{◌≡◌, ℕ, ◌+◌, ◌<◌, ◌^◌, if◌then◌else◌, List, [], ◌∷◌, All, length, map, nat_eq, not}
+use Rattle.std.specs.Prelude.{is_some, true}
+use Rattle.std.specs.List.{IsDistinct, list_any}
 use Rattle.disk.specs.declared.block.BlockNo.{BlockNo}
 use Rattle.objects.specs.Object.{ObjectBytes}
 use Rattle.objects.specs.Pins.{Residents, once_at, pins_of}
+use Rattle.txn_law.specs.Core.{CoreState}
 use Rattle.txn_law.specs.Holds.{hold_of}
 use Rattle.txn_law.specs.Window.{Footprint}
 use Rattle.txn_law.specs.declared.hold.Hold.{Hold}
@@ -47,3 +49,9 @@ reads_in records at = total (λ kept. objects_in kept.read at) records
 -- for each of the blocks, so many pins more as there are blocks can be counted
 abbrev pub AreCountable : Residents → List BlockNo → Type 0
 AreCountable residents blocks = All (λ block. pins_of residents block + length blocks < 2 ^ 64) blocks
+
+-- of each of these blocks a part is taken, or was read by a kept commit, and none of them stands twice
+pub record ArePinned (core : CoreState) (numbers : List ℕ) : Type 0 where
+  pub distinct : IsDistinct nat_eq numbers
+  pub pinned : (block : BlockNo) → list_any (nat_eq block.0) numbers ≡ true
+      → 0 < holds_in core.holds block + reads_in core.records block

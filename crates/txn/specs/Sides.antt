@@ -1,6 +1,6 @@
 -- The core by the side of the disk whose device call goes out or comes back: the logger's is the log's, the installer's
 -- the home side.
-use Rattle.std.specs.Prelude.{◌≡◌, ℕ, ◌+◌, Bool, if◌then◌else◌}
+use Rattle.std.specs.Prelude.{◌≡◌, ◌+◌, Bool, if◌then◌else◌}
 use Rattle.disk.specs.Crash.{Image}
 use Rattle.disk.specs.declared.block.Side.{Side}
 use Rattle.disk.specs.declared.block.Side.TheVariants.{Log as LogSide, Home}
@@ -20,7 +20,7 @@ counted Home core = record core { inst_calls = core.inst_calls + 1 }
 
 -- the core once the side's next call is handed out
 abbrev pub with_call : Side → CoreState → CoreState
-with_call side core = counted side (record core { log = with_out side core.log })
+with_call role core = counted role (record core { log = with_out role core.log })
 
 -- As a call of the side is given back the log goes on, and the installer lets go of the commits that it has installed.
 abbrev pub LetsGo : Side → CoreState → CoreState → Type 0

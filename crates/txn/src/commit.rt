@@ -1,26 +1,44 @@
 //! Committing a change.
-ghost use Rattle.std.specs.Prelude.{◌≡◌, ◌≤◌, ◌<◌, ◌↔◌, length, All, IsTrue, true, false};
+ghost use Rattle.std.specs.Prelude.{◌≡◌, ◌≤◌, ◌<◌, ◌↔◌, ℕ, length, All, IsTrue, true, false};
 ghost use Rattle.circ.specs.Log.Log.{IsHomeOn};
 ghost use Rattle.circ.specs.Log.Room.{IsRoom};
 ghost use Rattle.base.specs.declared.TheConstants.{CHANGED_BLOCKS};
 ghost use Rattle.txn.specs.Exactly.{IsCommitExactly};
-ghost use Rattle.txn.specs.Outcomes.{IsGiven};
+ghost use Rattle.txn.specs.Outcomes.{IsCommit, IsGiven, IsSetBy};
 ghost use Rattle.txn_law.specs.Commit.{IsOwn, IsReadBy, IsWrittenBy, HasBytes};
+ghost use Rattle.txn_law.specs.CoreWindow.{PreservesHome, PreservesReads};
 ghost use Rattle.txn_law.specs.Group.{blocks_of};
 
 use crate::outcomes::Commit;
-use crate::records::{Record, block_of_each, can_pin_each, keep};
-use crate::refreshing::refresh;
-use crate::state::State;
-use crate::{Change, Object, Receipt, Tx};
+use crate::records::{Record, block_of_each, can_pin_each, end, keep};
+use crate::refresh::refresh;
+use crate::{Change, Core, Object, Receipt, Tx};
 use disk::BlockNo;
 use std::alloc::Global;
 use txn_groups::{are_sized, blocks_of_objects, group_of, pointers_to};
 use wal::{Append, Room};
 
-impl<C: Change> State<C> {
-    /// Commits a change at the next place, and ends its transaction; `Core::commit` tells the answers.
-    pub(crate) fn commit(&mut self, alloc: Global, tx: Tx, change: C) -> Commit<C>
+impl<C: Change> Core<C> {
+    /// Commits a change at the next place, ends its transaction, and gives a receipt. Broken: a write or a barrier has failed.
+    /// Foreign: the transaction isn't one that this core began and that hasn't ended; or the change was planned
+    /// for other counts than the core's, writes a block that no change may write, writes what this transaction
+    /// doesn't hold alone or whose fetch is pending, or read what it doesn't hold for reading or what differs. Spent:
+    /// no place is left, or too few positions of the log. Full: the open group and this change pass the log.
+    /// These and NoMemory change nothing.
+    pub fn commit(&mut self, alloc: Global, tx: Tx, change: C) -> Commit<C>
+        requires { length (blocks_of (C.planned change).written) ≤ CHANGED_BLOCKS }
+        ensures answer { IsCommit self.old tx (C.planned change) change result self.new }
+        ensures given { IsGiven change result }
+        ensures sets { IsSetBy self.old (C.planned change) result self.new }
+        ensures stays { (other : ℕ) → (other ≡ tx → ⊥) → PreservesReads self.old self.new other }
+        ensures preserves { PreservesHome self.old self.new }
+    {
+        self.lawful();
+        self.try_commit(alloc, tx, change)
+    }
+
+    // Commits a change, as `commit` does.
+    fn try_commit(&mut self, alloc: Global, tx: Tx, change: C) -> Commit<C>
         requires { length (blocks_of (C.planned change).written) ≤ CHANGED_BLOCKS }
         ensures answer { IsCommitExactly self.old tx (C.planned change) change result self.new }
         ensures given { IsGiven change result }
@@ -50,6 +68,7 @@ impl<C: Change> State<C> {
         ensures given { IsGiven change result }
     {
         are_sized(change.written());
+        change.is_planned();
         self.present.lawful();
         if self.records.reserve(1).is_err() {
             return Commit::NoMemory(tx, change);
@@ -74,7 +93,9 @@ impl<C: Change> State<C> {
                 let installed = self.log.installed();
                 let kept = Record::of(place, read, &change);
                 keep(&mut self.records, &mut self.present, kept, installed);
-                self.close(number);
+                end(&mut self.out, &mut self.holds, &mut self.present, number);
+                self.log.lawful();
+                self.log.whole();
                 Commit::Committed(Receipt::of(place, change))
             }
             Append::Full => Commit::Full(tx, change),

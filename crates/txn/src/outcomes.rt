@@ -15,7 +15,7 @@ pub enum BeginFault {
     Broken,
 }
 
-/// What came of a wish to read an object. The bytes are the object's current ones.
+/// What came of a lock request to read an object. The bytes are the object's current ones.
 pub enum Want {
     Held(Tx, SharedBytes),
     Busy(Tx),
@@ -25,7 +25,7 @@ pub enum Want {
     NoMemory(Tx),
 }
 
-/// What came of a wish to write a whole block whose bytes don't matter.
+/// What came of a lock request to write a whole block whose bytes don't matter.
 pub enum Claim {
     Held(Tx),
     Busy(Tx),

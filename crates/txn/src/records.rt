@@ -1,9 +1,11 @@
-//! The commits that aren't installed, and the pins of what they read and of what transactions hold.
+//! The commits that aren't installed, and the pins of what they read and of what transactions hold; how a transaction ends.
 ghost use Rattle.std.specs.Prelude.{◌≡◌, ◌<◌, ◌↔◌, ◌++◌, ◌∷◌, [], if◌then◌else◌, nat_eq, nat_lt, not};
 ghost use Rattle.std.specs.Prelude.{All, IfOk, IsTrue};
 ghost use Rattle.std.specs.List.{filter};
 ghost use Rattle.std.specs.VecDeque.{deque_len, deque_capacity};
 ghost use Rattle.objects.specs.Pins.{Pins, Unpins, once_at, pins_of};
+ghost use Rattle.txn_law.specs.Core.{without};
+ghost use Rattle.txn_law.specs.Holds.{released};
 ghost use Rattle.txn.specs.Pinned.{AreCountable, count_in, objects_in, own_in, block_of_each, total};
 
 use crate::{Change, Object};
@@ -120,7 +122,7 @@ pub(crate) fn keep<C: Change>(
     kept: Record<C>,
     installed: Seq,
 )
-    requires room { deque_len records.old < deque_capacity records.old }
+    requires has_space { deque_len records.old < deque_capacity records.old }
     requires pinned { All (λ block. 0 < pins_of present.old block) (block_of_each kept.read) }
     requires countable { AreCountable present.old (block_of_each kept.read) }
     ensures records { records.new.items ≡ (if nat_lt installed.0 kept.place then records.old.items
@@ -180,11 +182,22 @@ fn unpin_hold(present: &mut Residency, transaction: u64, hold: &Hold)
     present.unpin(hold.addr.block);
 }
 
-/// Takes one pin off the block of each hold that the transaction has.
-pub(crate) fn unpin_holds(present: &mut Residency, holds: &Table, transaction: u64)
+// Takes one pin off the block of each hold that the transaction has.
+fn unpin_holds(present: &mut Residency, holds: &Table, transaction: u64)
     ensures { Unpins present.old (own_in transaction holds.now) present.new }
 {
     for hold in holds.holds() {
         unpin_hold(present, transaction, hold);
     }
+}
+
+/// Ends a transaction: it is out no more, and lets go of what it has taken.
+pub(crate) fn end(out: &mut Vec<u64>, holds: &mut Table, present: &mut Residency, transaction: u64)
+    ensures out { out.new.items ≡ without transaction out.old.items }
+    ensures holds { holds.new ≡ released holds.old transaction }
+    ensures pins { Unpins present.old (own_in transaction holds.old) present.new }
+{
+    out.retain(|other| *other != transaction);
+    unpin_holds(present, holds, transaction);
+    holds.release_all(transaction);
 }

@@ -67,7 +67,7 @@ impl FetchIo {
         ensures call { HasRead (D.device disk.old) (D.device disk.new) }
         ensures failure { CountsFailure (D.device disk.old) (D.device disk.new) result }
         ensures model { D.keeps_model disk.new → D.keeps_model disk.old }
-        ensures newest { D.keeps_model disk.new → (D.device disk.old).spoiled self.old.block.0 ≡ false
+        ensures newest { D.keeps_model disk.new → (D.device disk.old).uncertain self.old.block.0 ≡ false
             → OnOk result (self.new.content ≡ newest (current (D.device disk.old) self.old.block.0)) }
     {
         disk.read(self.block, &mut self.buffer)

@@ -22,10 +22,10 @@ never_fewer blocks (o ∷ os) =
     )
 
 -- where an object's block is new, there are fewer blocks than in the end
-pub room_left : (blocks : List BlockNo) (objects : List ObjectBytes) (o : ObjectBytes)
+pub reserved_left : (blocks : List BlockNo) (objects : List ObjectBytes) (o : ObjectBytes)
     (rest : List ObjectBytes) → objects ≡ o ∷ rest → is_among o.addr.block blocks ≡ false
     → length blocks < length (blocks_after blocks objects)
-room_left blocks objects o rest e fresh =
+reserved_left blocks objects o rest e fresh =
     subst (λ (os : List ObjectBytes). length blocks < length (blocks_after blocks os)) (sym e)
     (subst (λ (known : Bool). length blocks
     < length (blocks_after (cond known blocks (blocks ++ o.addr.block ∷ [])) rest)) (sym fresh)

@@ -4,16 +4,15 @@ ghost use Rattle.base.specs.declared.TheConstants.{BLOCK_BYTES, CHANGED_BLOCKS};
 ghost use Rattle.disk.specs.Device.{Content};
 ghost use Rattle.circ.specs.Log.Log.{blocks_of as group_blocks};
 ghost use Rattle.circ.specs.Log.Log.{newest};
-ghost use Rattle.txn_law.specs.Group.{blocks_of, is_among, base_in, laid, IsLaid};
+ghost use Rattle.txn_law.specs.Group.{blocks_of, is_among, base_in, overlaid_content, IsOverlaid};
 ghost use Rattle.objects.specs.Present.{present_of, content_in};
 ghost use Rattle.objects.specs.Spliced.{spliced};
 ghost use Rattle.std.specs.Option.{unwrap_or};
 
-use crate::laid_block::LaidBlock;
 use arrayvec::ArrayVec;
-use base::{BLOCK_BYTES, CHANGED_BLOCKS};
+use base::{BLOCK_BYTES, CHANGED_BLOCKS, CowBlock};
 use disk::{Block, BlockNo, SharedBlock};
-use objects::{Object, Residency};
+use objects::{Object, Residency, splice};
 use std::alloc::{AllocError, Global};
 use wal::Wal;
 
@@ -69,32 +68,32 @@ fn base_of<'a>(present: &'a Residency, wal: &'a Wal, block: BlockNo) -> Option<&
 
 // An object laid over its block: over what it was made so far, or over what is current. That isn't copied where the
 // object is the whole block.
-fn laid_over(
+fn overlay_object(
     alloc: Global,
     present: &Residency,
     wal: &Wal,
-    made: Option<LaidBlock>,
+    made: Option<CowBlock>,
     object: &Object,
-) -> Result<LaidBlock, AllocError>
+) -> Result<CowBlock, AllocError>
     ensures { IfOk result (λ content. content ≡ spliced (unwrap_or made
         (base_in (content_in (present_of present.now.blocks object.now.addr.block))
         (newest wal.now object.now.addr.block.0)))
         object.now.addr.offset object.now.bytes) }
 {
     match made {
-        Some(content) => content.with(alloc, object),
-        None => laid_first(alloc, present, wal, object),
+        Some(content) => Ok(with_object(content.into_owned(alloc)?, object)),
+        None => overlay_first(alloc, present, wal, object),
     }
 }
 
 // An object laid over what is current of its block.
 #[tactic(auto, using(crate::proofs::Whole::all_of_it))]
-fn laid_first(
+fn overlay_first(
     alloc: Global,
     present: &Residency,
     wal: &Wal,
     object: &Object,
-) -> Result<LaidBlock, AllocError>
+) -> Result<CowBlock, AllocError>
     ensures { IfOk result (λ content. content ≡ spliced
         (base_in (content_in (present_of present.now.blocks object.now.addr.block))
         (newest wal.now object.now.addr.block.0))
@@ -106,17 +105,26 @@ fn laid_first(
     if bytes.len() == BLOCK_BYTES {
         return all_of(alloc, object);
     }
-    LaidBlock::own(copied(alloc, base)?).with(alloc, object)
+    Ok(with_object(copied(alloc, base)?, object))
+}
+
+// A block with an object laid over it.
+fn with_object(block: Block, object: &Object) -> CowBlock
+    ensures { result ≡ spliced block object.now.addr.offset object.now.bytes }
+{
+    let mut content = block;
+    splice(&mut content, object);
+    CowBlock::owned(content)
 }
 
 // An object that is a whole block: by pointer, where its bytes are those of a shared block.
-fn all_of(alloc: Global, object: &Object) -> Result<LaidBlock, AllocError>
+fn all_of(alloc: Global, object: &Object) -> Result<CowBlock, AllocError>
     requires { length object.now.bytes ≡ BLOCK_BYTES }
     ensures { IfOk result (λ content. content ≡ object.now.bytes) }
 {
     match object.whole() {
-        Some(block) => Ok(LaidBlock::shared(block.clone()?)),
-        None => Ok(LaidBlock::own(Block::from_slice(alloc, object.bytes())?)),
+        Some(block) => Ok(CowBlock::shared(block.clone()?)),
+        None => Ok(CowBlock::owned(Block::from_slice(alloc, object.bytes())?)),
     }
 }
 
@@ -139,17 +147,17 @@ fn content_with(
     block: BlockNo,
     objects: &[Object],
 ) -> Result<SharedBlock, AllocError>
-    ensures { IfOk result (λ content. IsLaid present.now.blocks wal.now objects.now (block, content)) }
+    ensures { IfOk result (λ content. IsOverlaid present.now.blocks wal.now objects.now (block, content)) }
 {
     let mut made = None;
     for object in objects {
         let addr = object.addr();
         if addr.block == block {
-            made = Some(laid_over(alloc, present, wal, made, object)?);
+            made = Some(overlay_object(alloc, present, wal, made, object)?);
         }
     }
     match made {
-        Some(content) => content.into_shared(alloc),
+        Some(content) => Ok(content.into_shared(alloc)?),
         None => Ok(SharedBlock::new(alloc, copied(alloc, base_of(present, wal, block))?)?),
     }
 }
@@ -163,7 +171,7 @@ pub fn group_of(
     objects: &[Object],
 ) -> Result<Vec<(BlockNo, SharedBlock)>, AllocError>
     ensures blocks { IfOk result (λ group. group_blocks group.items ≡ blocks.now) }
-    ensures contents { IfOk result (λ group. All (IsLaid present.now.blocks wal.now objects.now) group.items) }
+    ensures contents { IfOk result (λ group. All (IsOverlaid present.now.blocks wal.now objects.now) group.items) }
     ensures whole { IfOk result (λ group. All (λ change. length change.1 ≡ BLOCK_BYTES) group.items) }
 {
     let mut group = Vec::with_capacity(alloc, blocks.len())?;

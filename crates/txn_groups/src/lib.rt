@@ -2,6 +2,5 @@
 #![tactic(auto)]
 
 mod group;
-mod laid_block;
 
 pub use group::{Blocks, are_sized, blocks_of_objects, group_of, pointers_to};

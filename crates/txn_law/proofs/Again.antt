@@ -1,4 +1,4 @@
--- Lemma: a transaction that has taken an address may wish for it again.
+-- Lemma: a transaction that has taken an address may ask for it again.
 use Rattle.std.proofs.Common.{◌≡◌, ℕ, false, nat_eq, ◌⊎◌, inl, inr, List, [], ◌∷◌, Some, sym, ap, subst, ◌∙◌}
 use Rattle.std.proofs.Common.{arith}
 use Rattle.std.proofs.Common.{get_or, true, ◌+◌, ◌<◌, ◌≤◌}
@@ -8,16 +8,16 @@ use Rattle.std.specs.Prelude.{Contains}
 use Rattle.std.proofs.lemmas.Bool.{eqb-true}
 use Rattle.std.proofs.lemmas.List.Elements.{All-contains, All-contains_itself}
 use Rattle.objects.specs.Addr.{Overlap}
-use Rattle.objects.specs.Mode.{Excludes, raised}
+use Rattle.objects.specs.Mode.{Excludes, upgraded}
 use Rattle.objects.specs.declared.addr.Addr.{Addr}
 use Rattle.objects.specs.declared.mode.Mode.{Mode}
 use Rattle.objects.specs.declared.mode.Mode.TheVariants as modes
 use Rattle.circ.specs.Log.Log.{IsHomeOn}
 use Rattle.txn_law.specs.Core.{CoreState, IsOut}
-use Rattle.txn_law.specs.Holds.{IsHoldOf, KeepsOff, is_hold_of}
+use Rattle.txn_law.specs.Holds.{IsHoldOf, ConflictsWith, is_hold_of}
 use Rattle.txn_law.specs.Leaves.{taken_by, is_fetching}
-use Rattle.txn_law.specs.Tidy.{AreBeside, AreApart, IsOfOne, AreTidy}
-use Rattle.txn_law.specs.Wishes.{IsOpen}
+use Rattle.txn_law.specs.WellFormed.{AreCompatible, AreApart, IsOfOne, IsWellFormed}
+use Rattle.txn_law.specs.LockAnswers.{IsOpen}
 use Rattle.txn_law.specs.declared.hold.Hold.{Hold}
 use Rattle.txn_law.proofs.Claims.{found_by, all_four}
 use Rattle.txn_law.proofs.Swept.{in_cons}
@@ -45,45 +45,45 @@ overlap_back : (a b : Addr) → Overlap a b → Overlap b a
 overlap_back a b (same, less, more) = (sym same, more, less)
 
 -- what keeps off is kept off
-beside_back : (x y : Hold) → AreBeside x y → AreBeside y x
-beside_back x y apart over off = apart (overlap_back y.addr x.addr over) (back off)
+compatible_back : (x y : Hold) → AreCompatible x y → AreCompatible y x
+compatible_back x y apart over off = apart (overlap_back y.addr x.addr over) (back off)
   where
     other : Excludes y.mode x.mode → Excludes x.mode y.mode
-    other (inl alone) = inr alone
-    other (inr alone) = inl alone
+    other (inl exclusive_hold) = inr exclusive_hold
+    other (inr exclusive_hold) = inl exclusive_hold
 
-    back : KeepsOff x.transaction x.mode y → KeepsOff y.transaction y.mode x
+    back : ConflictsWith x.transaction x.mode y → ConflictsWith y.transaction y.mode x
     back (inl same) = inl (sym same)
     back (inr excludes) = inr (other excludes)
 
 -- two holds are one, or lie beside each other
 pub one_or_apart : (holds : List Hold) (x y : Hold) → AreApart holds → Contains holds x → Contains holds y
-    → (x ≡ y) ⊎ AreBeside x y
+    → (x ≡ y) ⊎ AreCompatible x y
 one_or_apart [] x y apart (k, lt, e) there = absurd (omega (arith, lt))
 one_or_apart (h ∷ hs) x y apart one other =
     go (one_or_apart hs x y apart.1) (in_cons h x hs one) (in_cons h y hs other)
   where
-    go : (Contains hs x → Contains hs y → (x ≡ y) ⊎ AreBeside x y)
-        → (h ≡ x) ⊎ Contains hs x → (h ≡ y) ⊎ Contains hs y → (x ≡ y) ⊎ AreBeside x y
+    go : (Contains hs x → Contains hs y → (x ≡ y) ⊎ AreCompatible x y)
+        → (h ≡ x) ⊎ Contains hs x → (h ≡ y) ⊎ Contains hs y → (x ≡ y) ⊎ AreCompatible x y
     go rest (inl is) (inl also) = inl (sym is ∙ also)
     go rest (inl is) (inr later) =
-        inr (subst (λ (z : Hold). AreBeside z y) is (All-contains (AreBeside h) hs y apart.0 later))
+        inr (subst (λ (z : Hold). AreCompatible z y) is (All-contains (AreCompatible h) hs y apart.0 later))
     go rest (inr later) (inl is) =
-        inr (subst (λ (z : Hold). AreBeside x z) is (beside_back h x (All-contains (AreBeside h) hs x apart.0
+        inr (subst (λ (z : Hold). AreCompatible x z) is (compatible_back h x (All-contains (AreCompatible h) hs x apart.0
         later)))
     go rest (inr one) (inr other) = rest one other
 
--- what keeps off a wish keeps off a stronger one
-weaker : (strong weak : Mode) → raised strong weak ≡ strong → (other : Mode) → Excludes other weak
+-- what keeps off a lock request keeps off a stronger one
+weaker : (strong weak : Mode) → upgraded strong weak ≡ strong → (other : Mode) → Excludes other weak
     → Excludes other strong
 weaker strong modes.Exclusive e other excludes = inr (sym e)
-weaker strong modes.Shared e other (inl alone) = inl alone
-weaker strong modes.Shared e other (inr alone) = absurd (cc)
+weaker strong modes.Shared e other (inl exclusive_hold) = inl exclusive_hold
+weaker strong modes.Shared e other (inr exclusive_hold) = absurd (cc)
 
-pub open_again : (core : CoreState) (tx : ℕ) (addr : Addr) (hold : Hold) (mode : Mode) → AreTidy core
-    → taken_by core tx addr ≡ Some hold → raised hold.mode mode ≡ hold.mode
+pub open_again : (core : CoreState) (tx : ℕ) (addr : Addr) (hold : Hold) (mode : Mode) → IsWellFormed core
+    → taken_by core tx addr ≡ Some hold → upgraded hold.mode mode ≡ hold.mode
     → is_fetching core addr.block ≡ false → IsOpen core tx addr mode
-open_again core tx addr hold mode tidy taken no_more loaded = record {
+open_again core tx addr hold mode well_formed taken no_more loaded = record {
   inside = record {
     out = subst (IsOut core) by own.0;
     home = subst (λ (a : Addr). IsHomeOn core.log.blocks a.block) at own.1;
@@ -111,16 +111,16 @@ open_again core tx addr hold mode tidy taken no_more loaded = record {
     by = eqb-true hold.transaction tx four.0
 
     own : IsOfOne core hold
-    own = All-contains (IsOfOne core) core.holds hold tidy.owned there
+    own = All-contains (IsOfOne core) core.holds hold well_formed.owned there
 
-    off_too : (x : Hold) → KeepsOff tx mode x → KeepsOff hold.transaction hold.mode x
+    off_too : (x : Hold) → ConflictsWith tx mode x → ConflictsWith hold.transaction hold.mode x
     off_too x (inl same) = inl (same ∙ sym by)
     off_too x (inr excludes) = inr (weaker hold.mode mode no_more x.mode excludes)
 
-    each : (x : Hold) → Contains core.holds x → Overlap x.addr addr → KeepsOff tx mode x → IsHoldOf tx addr x
-    each x inside over off = go (one_or_apart core.holds x hold tidy.apart inside there)
+    each : (x : Hold) → Contains core.holds x → Overlap x.addr addr → ConflictsWith tx mode x → IsHoldOf tx addr x
+    each x inside over off = go (one_or_apart core.holds x hold well_formed.apart inside there)
       where
-        go : (x ≡ hold) ⊎ AreBeside x hold → IsHoldOf tx addr x
+        go : (x ≡ hold) ⊎ AreCompatible x hold → IsHoldOf tx addr x
         go (inl same) = (
           ap (λ (h : Hold). h.transaction) same ∙ by,
           ap (λ (h : Hold). h.addr) same ∙ at,

@@ -17,7 +17,7 @@ use Rattle.objects.specs.Object.{ObjectBytes}
 use Rattle.objects.specs.Present.{present_of, content_in}
 use Rattle.txn_law.specs.declared.hold.Hold.{Hold}
 use Rattle.txn_law.specs.Steps.{IsWholeIn}
-use Rattle.txn_law.specs.Tidy.{AreTidy, IsReadHere, IsClaimedWhole}
+use Rattle.txn_law.specs.WellFormed.{IsWellFormed, IsReadHere, IsClaimedWhole}
 use Rattle.txn_law.proofs.Swept.{in_more, in_first}
 
 pub found_by : {X : Type 0} (test : X → Bool) (xs : List X) (x : X) → find test xs ≡ Some x
@@ -38,15 +38,15 @@ all_four true false c d e = absurd (cc)
 all_four false b c d e = absurd (cc)
 
 -- what is held for writing is held alone, and read or claimed
-pub held_alone : (mode : Mode) (either : Bool) → (is_exclusive mode && either) ≡ true → mode ≡ modes.Exclusive
-held_alone modes.Exclusive either e = refl
-held_alone modes.Shared either e = absurd (cc)
+pub held_exclusive : (mode : Mode) (either : Bool) → (is_exclusive mode && either) ≡ true → mode ≡ modes.Exclusive
+held_exclusive modes.Exclusive either e = refl
+held_exclusive modes.Shared either e = absurd (cc)
 
 held_either : (mode : Mode) (either : Bool) → (is_exclusive mode && either) ≡ true → either ≡ true
 held_either modes.Exclusive either e = e
 held_either modes.Shared either e = absurd (cc)
 
-module _ (core : CoreState) (tx : ℕ) (block : BlockNo) (tidy : AreTidy core)
+module _ (core : CoreState) (tx : ℕ) (block : BlockNo) (well_formed : IsWellFormed core)
     (absent : content_in (present_of core.present block) ≡ None) where
   one_write : (object : ObjectBytes) → is_written (hold_of core.holds tx object.addr) ≡ true
       → length object.bytes ≡ object.addr.len → IsWholeIn block object
@@ -66,14 +66,14 @@ module _ (core : CoreState) (tx : ℕ) (block : BlockNo) (tidy : AreTidy core)
               (nat_eq hold.addr.offset object.addr.offset) (nat_eq hold.addr.len object.addr.len) is in
               let at : hold.addr.block.0 ≡ block.0 = eqb-true hold.addr.block.0 object.addr.block.0 four.1
               ∙ same in
-              let here = All-contains (IsReadHere core.present) core.holds hold tidy.read there is_read in
+              let here = All-contains (IsReadHere core.present) core.holds hold well_formed.read there is_read in
               let f : ℕ → BlockNo = λ number. record { 0 = number } in
               absurd (let none : Some here.0 ≡ None = sym here.1
               ∙ ap (λ (b : BlockNo). content_in (present_of core.present b)) (ap f at) ∙ absent in cc)
           by false true is_read is_claimed either (is, there) =
               let four = all_four (nat_eq hold.transaction tx) (nat_eq hold.addr.block.0 object.addr.block.0)
               (nat_eq hold.addr.offset object.addr.offset) (nat_eq hold.addr.len object.addr.len) is in
-              let whole = All-contains IsClaimedWhole core.holds hold tidy.claimed there is_claimed in (
+              let whole = All-contains IsClaimedWhole core.holds hold well_formed.claimed there is_claimed in (
                 sym (eqb-true hold.addr.offset object.addr.offset four.2) ∙ whole.0,
                 size
                     ∙ sym (eqb-true hold.addr.len object.addr.len four.3) ∙ whole.1,
@@ -86,9 +86,9 @@ module _ (core : CoreState) (tx : ℕ) (block : BlockNo) (tidy : AreTidy core)
       go (Some hold) e w = of_hold hold e hold.is_read hold.is_claimed refl refl
           (held_either hold.mode (hold.is_read || hold.is_claimed) w)
 
-pub whole_writes : (core : CoreState) (tx : ℕ) (written : List ObjectBytes) (block : BlockNo) → AreTidy core
+pub whole_writes : (core : CoreState) (tx : ℕ) (written : List ObjectBytes) (block : BlockNo) → IsWellFormed core
     → All (λ object. IsWrittenBy core tx object.addr) written
     → All (λ object. length object.bytes ≡ object.addr.len) written
     → content_in (present_of core.present block) ≡ None → All (IsWholeIn block) written
-whole_writes core tx written block tidy writes sizes absent k d lt =
-    one_write core tx block tidy absent (slice_index_or written k d) (writes k d lt).held (sizes k d lt)
+whole_writes core tx written block well_formed writes sizes absent k d lt =
+    one_write core tx block well_formed absent (slice_index_or written k d) (writes k d lt).held (sizes k d lt)

@@ -102,7 +102,7 @@ module _ (base : Image) (old new : Log) (commits : List Footprint) (held kept : 
       let was : installed_place old ≡ old.places = ap (λ xs. place_before xs old.places) none in
       let few : length commits ≡ 0 = omega (arith, window.all) in
       let empty : commits ≡ [] = empty_list commits (ap (λ n. nat_eq n 0) few) in
-      let kept_out : with_commit new commit commits ≡ [] =
+      let preserved_out : with_commit new commit commits ≡ [] =
       ap (λ (t : Bool). if t then commits ++ commit ∷ [] else commits)
       (not_below (installed_place new) commit.place (omega (arith, at, grows.places, place))) ∙ empty in
       let changes : new.changes ≡ [] =
@@ -110,13 +110,13 @@ module _ (base : Image) (old new : Log) (commits : List Footprint) (held kept : 
       ∙ ap (λ g. or_else (newest_in g block) (newest_of old.changes block)) nothing
       ∙ ap (λ xs. newest_of xs block) none) in
       let now : (block : ℕ) → with_objects (now_of base old commits) commit.written block ≡ base block =
-      λ block. sym (brought.laid block)
+      λ block. sym (brought.overlaid_content block)
       ∙ ap (λ g. content_or (newest_in g block) (now_of base old commits block)) nothing
       ∙ ap (λ cs. now_of base old cs block) empty ∙ ap (λ xs. with_changes base (recovered xs) block) none in
       let memory' : All (IsCurrent base) kept =
       All-weaker (IsCurrent (with_objects (now_of base old commits) commit.written)) (IsCurrent base)
       (λ resident same. same ∙ now resident.0) kept memory in
-      subst (λ cs. IsWindowOver base new cs kept) (sym kept_out) (none_window base new kept changes memory')
+      subst (λ cs. IsWindowOver base new cs kept) (sym preserved_out) (none_window base new kept changes memory')
 
   now_new : now_of base new (commits ++ commit ∷ []) ≡ with_objects (now_of base old commits) commit.written
   now_new = ap (λ b. after_commits b (commits ++ commit ∷ [])) from
@@ -139,7 +139,7 @@ module _ (base : Image) (old new : Log) (commits : List Footprint) (held kept : 
       → with_changes base new.changes block ≡ with_objects (now_of base old commits) commit.written block
   all_new block = ap (λ o. content_or o (base block)) (grows.behind 0 (omega arith) block)
       ∙ content_or-or_else (newest_in group block) (newest_of old.changes block) (base block)
-      ∙ ap (λ c. content_or (newest_in group block) c) (all_now block) ∙ brought.laid block
+      ∙ ap (λ c. content_or (newest_in group block) c) (all_now block) ∙ brought.overlaid_content block
 
   size : length (commits ++ commit ∷ []) ≡ length commits + 1
   size = length-append commits (commit ∷ [])
@@ -212,17 +212,17 @@ module _ (base : Image) (old new : Log) (commits : List Footprint) (held kept : 
           leads_all count (grows.place count le
           ∙ ap (λ (t : Bool). if t then old.places + 1
           else place_before (drop count old.changes) old.places) e)
-          (λ block. ap (λ xs. with_changes base xs block) (grows.front count le
+          (λ block. ap (λ xs. with_changes base xs block) (grows.leading count le
           ∙ take_all count old.changes whole) ∙ all_now block
           ∙ ap (λ g. content_or (newest_in g block) (now_of base old commits block)) (sym nothing)
-          ∙ brought.laid block) block
+          ∙ brought.overlaid_content block) block
       group_older count clean end le false e block =
           let p : place_before (drop count new.changes) new.places
           ≡ place_before (drop count old.changes) old.places =
           grows.place count le
           ∙ ap (λ (t : Bool). if t then old.places + 1
           else place_before (drop count old.changes) old.places) e in
-          ap (λ xs. with_changes base xs block) (grows.front count le)
+          ap (λ xs. with_changes base xs block) (grows.leading count le)
           ∙ window.group count end (sym (grows.opened count le) ∙ clean) block
           ∙ ap (λ (b : Image). after_commits b (take (commits_among old count) commits) block) (sym from)
           ∙ ap (λ xs. after_commits (opening base new) xs block)
@@ -288,9 +288,9 @@ module _ (base : Image) (old new : Log) (commits : List Footprint) (held kept : 
       written_of count (newer e) = written_all count (end_of count (omega arith))
 
   -- either way
-  pub kept_by_commit : All (ArePinned kept) (with_commit new commit commits)
+  pub preserved_by_commit : All (ArePinned kept) (with_commit new commit commits)
       → IsWindowOver base new (with_commit new commit commits) kept
-  kept_by_commit pinned = go (nat_eq (length old.changes) 0 && nat_eq (length group) 0) refl
+  preserved_by_commit pinned = go (nat_eq (length old.changes) 0 && nat_eq (length group) 0) refl
     where
       go : (t : Bool) → (nat_eq (length old.changes) 0 && nat_eq (length group) 0) ≡ t
           → IsWindowOver base new (with_commit new commit commits) kept

@@ -26,8 +26,8 @@ use Rattle.txn_law.specs.CoreWindow.{with_resident, held_of, IsCoreWindow}
 use Rattle.txn_law.specs.Commit.{refreshed_content, refreshed, committed, IsCommitted}
 use Rattle.txn_law.specs.Steps.{IsBrought, IsWholeIn, IsKnown, with_commit}
 use Rattle.txn_law.specs.Window.{now_of, IsPinned, ArePinned, IsCurrent}
-use Rattle.txn_law.proofs.Commit.{all_new, kept_by_commit}
-use Rattle.txn_law.proofs.Laid.{brought}
+use Rattle.txn_law.proofs.Commit.{all_new, preserved_by_commit}
+use Rattle.txn_law.proofs.OverlaidContent.{brought}
 use Rattle.txn_law.proofs.Moves.{tail_is_now}
 use Rattle.txn_law.proofs.Swept.{in_cons, in_more, in_first, window_swept}
 
@@ -162,7 +162,7 @@ module _ (spare : Present → Bool) (base : Image) (old : CoreState) (tx : ℕ) 
           let none : newest_in group block ≡ None =
           first_none (newest_in group block) (newest old.log block)
           (sym (h.grown.behind 0 (omega arith) block) ∙ e) in
-          sym (ap (λ o. content_or o (now block)) none) ∙ is_brought.laid block
+          sym (ap (λ o. content_or o (now block)) none) ∙ is_brought.overlaid_content block
 
   abbrev kept : List (ℕ × Content)
   kept = held_of (refreshed log old.present)
@@ -189,7 +189,7 @@ module _ (spare : Present → Bool) (base : Image) (old : CoreState) (tx : ℕ) 
   core_committed =
       window_swept spare base log (with_commit log commit old.records) (released old.holds tx)
       (refreshed log old.present)
-      (kept_by_commit base old.log log old.records (held_of old.present) kept commit group lawful h.grown refl
+      (preserved_by_commit base old.log log old.records (held_of old.present) kept commit group lawful h.grown refl
       is_brought (all_refreshed log now (with_objects now plan.written) fresh old.present window.memory)
       window pinned)
 

@@ -21,16 +21,16 @@ use Rattle.circ.proofs.LogLemmas.Effects.{seen_inst_done}
 use Rattle.txn_law.specs.Commit.{Planned, IsOwn, committed}
 use Rattle.txn_law.specs.Core.{CoreState, with_begun, with_log_call, with_inst_call, past, installed, ended}
 use Rattle.txn_law.specs.CoreLaw.{IsFresh, IsPlanned, IsLawfulCore}
-use Rattle.txn_law.specs.CoreWindow.{held_of, IsCoreWindow, AreBlocks, IsHomeOf, KeepsHome}
+use Rattle.txn_law.specs.CoreWindow.{held_of, IsCoreWindow, AreBlocks, IsHomeOf, PreservesHome}
 use Rattle.txn_law.specs.Fetch.{Fetch}
 use Rattle.txn_law.specs.Fetched.{fetched, fetch_failed}
-use Rattle.txn_law.specs.Group.{blocks_of, IsLaid}
+use Rattle.txn_law.specs.Group.{blocks_of, IsOverlaid}
 use Rattle.objects.specs.Object.{ObjectBytes}
 use Rattle.circ.specs.Log.Grows.{IsWholeChange}
-use Rattle.txn_law.specs.Tidy.{IsOfOne, AreTidy}
+use Rattle.txn_law.specs.WellFormed.{IsOfOne, IsWellFormed}
 use Rattle.txn_law.specs.Window.{Footprint, IsWindowOver}
 use Rattle.txn_law.specs.Lists.{IsHeldExactly, IsFetchedExactly, claimed}
-use Rattle.txn_law.specs.Wishes.{IsOpen, IsWhole}
+use Rattle.txn_law.specs.LockAnswers.{IsOpen, IsWhole}
 use Rattle.objects.specs.declared.present.Present.{Present}
 use Rattle.txn_law.proofs.Commits.{past-drop}
 use Rattle.txn_law.proofs.Fetches.{core_fetch_failed}
@@ -39,16 +39,16 @@ use Rattle.txn_law.proofs.Homes.{whole_after, fetched_some_home, commit_home}
 use Rattle.txn_law.proofs.Moves.{window_log_out, window_log_back, window_inst_out}
 use Rattle.txn_law.proofs.OtherHome.{either}
 use Rattle.txn_law.proofs.Swept.{or-true, window_swept, core_installed}
-use Rattle.txn_law.proofs.TidyCommit.{tidy_commit}
-use Rattle.txn_law.proofs.Tidied.{tidy_held, tidy_fetch, tidy_claim, tidy_end, tidy_fetched, tidy_failed}
-use Rattle.txn_law.proofs.Tidied.{tidy_installed, tidy_log, tidy_call}
-use Rattle.txn_law.proofs.Wishes.{core_held, core_fetch, core_claim, core_end}
+use Rattle.txn_law.proofs.WellFormedCommit.{well_formed_commit}
+use Rattle.txn_law.proofs.StaysWellFormed.{well_formed_held, well_formed_fetch, well_formed_claim, well_formed_end, well_formed_fetched, well_formed_failed}
+use Rattle.txn_law.proofs.StaysWellFormed.{well_formed_installed, well_formed_log, well_formed_call}
+use Rattle.txn_law.proofs.LockAnswers.{core_held, core_fetch, core_claim, core_end}
 
 -- Steps that keep the window of the core, over the same blocks at home.
 
 pub home_held : (old new : CoreState) (tx : ℕ) (addr : Addr) (mode : Mode) (bytes : List ℕ)
     → IsHeldExactly old tx addr mode bytes new
-    → KeepsHome old new
+    → PreservesHome old new
 home_held old new tx addr mode bytes held base h = record {
   whole = subst (λ (core : CoreState). AreBlocks core.log.blocks base) (sym held.core) h.whole;
   window = core_held base old new tx addr mode bytes held h.window;
@@ -56,23 +56,23 @@ home_held old new tx addr mode bytes held base h = record {
 
 pub home_fetch : (old new : CoreState) (tx : ℕ) (addr : Addr) (mode : Mode) (io : Fetch)
     → IsFetchedExactly old tx addr mode io new
-    → KeepsHome old new
+    → PreservesHome old new
 home_fetch old new tx addr mode io fetch base h = record {
   whole = subst (λ (core : CoreState). AreBlocks core.log.blocks base) (sym fetch.core) h.whole;
   window = core_fetch base old new tx addr mode io fetch h.window;
 }
 
-pub home_claim : (old : CoreState) (tx : ℕ) (addr : Addr) → KeepsHome old (claimed old tx addr)
+pub home_claim : (old : CoreState) (tx : ℕ) (addr : Addr) → PreservesHome old (claimed old tx addr)
 home_claim old tx addr base h = record { whole = h.whole; window = core_claim base old tx addr h.window }
 
-pub home_end : (spare : Present → Bool) (old : CoreState) (tx : ℕ) → KeepsHome old (ended spare old tx)
+pub home_end : (spare : Present → Bool) (old : CoreState) (tx : ℕ) → PreservesHome old (ended spare old tx)
 home_end spare old tx base h = record { whole = h.whole; window = core_end spare base old tx h.window }
 
-pub home_failed : (old : CoreState) (block : BlockNo) → KeepsHome old (fetch_failed old block)
+pub home_failed : (old : CoreState) (block : BlockNo) → PreservesHome old (fetch_failed old block)
 home_failed old block base h = record { whole = h.whole; window = core_fetch_failed base old block h.window }
 
 pub home_log_out : (old : CoreState) → IsLawful old.log
-    → KeepsHome old (with_log_call old)
+    → PreservesHome old (with_log_call old)
 home_log_out old lawful base h = record {
   whole = h.whole;
   window = window_log_out base old.log old.records (held_of old.present) lawful h.window;
@@ -98,7 +98,7 @@ back_changes log true = elim (nat_eq log.log_step (log.taken + 2)) as (λ t. (if
 
 -- the logger's call is given back, or one that isn't out
 pub home_log_done : (old : CoreState) (is_out ok : Bool) → IsLawful old.log
-    → KeepsHome old (record old { log = if is_out then with_log_back old.log ok else old.log })
+    → PreservesHome old (record old { log = if is_out then with_log_back old.log ok else old.log })
 home_log_done old true ok lawful base h = record {
   whole = subst (λ (n : ℕ). AreBlocks n base) (sym (back_blocks old.log ok)) h.whole;
   window = window_log_back base old.log old.records (held_of old.present) ok lawful h.window;
@@ -128,7 +128,7 @@ out_changes log = elim (nat_lt 0 log.installing) as (λ t. (if t then record log
     ]
 
 pub home_inst_out : (old : CoreState) → IsLawful old.log
-    → KeepsHome old (with_inst_call old)
+    → PreservesHome old (with_inst_call old)
 home_inst_out old lawful base h = record {
   whole = subst (λ (n : ℕ). AreBlocks n base) (sym (out_blocks old.log)) h.whole;
   window = window_inst_out base old.log old.records (held_of old.present) lawful h.window;
@@ -147,17 +147,17 @@ all_past base core h =
 -- The installer's call is given back, or one that isn't out: then from what is at home after it, and the
 -- kept commits follow from there.
 pub home_inst_done : (spare : Present → Bool) (base : Image) (old : CoreState) (is_out ok : Bool)
-    → IsLawful old.log → AreTidy old
+    → IsLawful old.log → IsWellFormed old
     → IsHomeOf base old
     → IsHomeOf (if is_out then home_after base old.log ok else base)
     (installed spare old (if is_out then with_inst_back old.log ok else old.log))
-home_inst_done spare base old true ok lawful tidy h = record {
+home_inst_done spare base old true ok lawful well_formed h = record {
   whole = subst (λ (n : ℕ). AreBlocks n (home_after base old.log ok))
       (sym (seen_inst_done old.log true ok lawful).blocks)
-      (whole_after old.log.blocks base old.log ok tidy.changes h.whole);
+      (whole_after old.log.blocks base old.log ok well_formed.changes h.whole);
   window = core_installed spare base old ok lawful h.window;
 }
-home_inst_done spare base old false ok lawful tidy h = record {
+home_inst_done spare base old false ok lawful well_formed h = record {
   whole = h.whole;
   window = window_swept spare base old.log (past (installed_place old.log) old.records) old.holds old.present
       (subst (λ (rs : List Footprint). IsWindowOver base old.log rs (held_of old.present))
@@ -219,7 +219,7 @@ module _ (P : ℕ → ℕ → List ObjectBytes → List ObjectBytes → Type 0) 
       })
   lawful_new log inodes boot lawful fresh whole = record {
     log = lawful;
-    tidy = record {
+    well_formed = record {
       owned = λ k d lt. absurd (omega (arith, lt));
       placed = λ k d lt. absurd (omega (arith, lt));
       apart = tt;
@@ -243,20 +243,20 @@ module _ (P : ℕ → ℕ → List ObjectBytes → List ObjectBytes → Type 0) 
   pub lawful_begun : (old : CoreState) → IsLawfulCore P old → IsLawfulCore P (with_begun old)
   lawful_begun old h = record {
     log = h.log;
-    tidy = record {
+    well_formed = record {
       owned = All-weaker (IsOfOne old) (IsOfOne (with_begun old))
           (λ x own. (
             ap (λ b. nat_eq (old.begun + 1) x.transaction || b) own.0
                 ∙ or-true (nat_eq (old.begun + 1) x.transaction),
             own.1,
-          )) old.holds h.tidy.owned;
-      placed = h.tidy.placed;
-      apart = h.tidy.apart;
-      read = h.tidy.read;
-      claimed = h.tidy.claimed;
-      once = h.tidy.once;
-      pending = h.tidy.pending;
-      changes = h.tidy.changes;
+          )) old.holds h.well_formed.owned;
+      placed = h.well_formed.placed;
+      apart = h.well_formed.apart;
+      read = h.well_formed.read;
+      claimed = h.well_formed.claimed;
+      once = h.well_formed.once;
+      pending = h.well_formed.pending;
+      changes = h.well_formed.changes;
     };
     home = (h.home.0, record { whole = h.home.1.whole; window = h.home.1.window });
     planned = h.planned;
@@ -267,7 +267,7 @@ module _ (P : ℕ → ℕ → List ObjectBytes → List ObjectBytes → Type 0) 
       → IsLawfulCore P new
   lawful_held old new tx addr mode bytes open' held h = record {
     log = subst (λ (core : CoreState). IsLawful core.log) (sym held.core) h.log;
-    tidy = tidy_held old new tx addr mode bytes open' held h.tidy;
+    well_formed = well_formed_held old new tx addr mode bytes open' held h.well_formed;
     home = (h.home.0, home_held old new tx addr mode bytes held h.home.0 h.home.1);
     planned = subst (λ (core : CoreState). All (IsPlanned P core.log.blocks core.inodes) core.records)
         (sym held.core) h.planned;
@@ -278,7 +278,7 @@ module _ (P : ℕ → ℕ → List ObjectBytes → List ObjectBytes → Type 0) 
       → IsLawfulCore P new
   lawful_fetch old new tx addr mode io open' fetch h = record {
     log = subst (λ (core : CoreState). IsLawful core.log) (sym fetch.core) h.log;
-    tidy = tidy_fetch old new tx addr mode io open' fetch h.tidy;
+    well_formed = well_formed_fetch old new tx addr mode io open' fetch h.well_formed;
     home = (h.home.0, home_fetch old new tx addr mode io fetch h.home.0 h.home.1);
     planned = subst (λ (core : CoreState). All (IsPlanned P core.log.blocks core.inodes) core.records)
         (sym fetch.core) h.planned;
@@ -289,7 +289,7 @@ module _ (P : ℕ → ℕ → List ObjectBytes → List ObjectBytes → Type 0) 
       → IsLawfulCore P (claimed old tx addr)
   lawful_claim old tx block addr whole open' h = record {
     log = h.log;
-    tidy = tidy_claim old tx block addr whole open' h.tidy;
+    well_formed = well_formed_claim old tx block addr whole open' h.well_formed;
     home = (h.home.0, home_claim old tx addr h.home.0 h.home.1);
     planned = h.planned;
   }
@@ -298,7 +298,7 @@ module _ (P : ℕ → ℕ → List ObjectBytes → List ObjectBytes → Type 0) 
       (ended spare old tx)
   lawful_end spare old tx h = record {
     log = h.log;
-    tidy = tidy_end spare old tx h.tidy;
+    well_formed = well_formed_end spare old tx h.well_formed;
     home = (h.home.0, home_end spare old tx h.home.0 h.home.1);
     planned = h.planned;
   }
@@ -308,8 +308,8 @@ module _ (P : ℕ → ℕ → List ObjectBytes → List ObjectBytes → Type 0) 
       → IsLawfulCore P old → IsLawfulCore P (fetched spare old block content)
   lawful_fetched spare old block content size h = record {
     log = h.log;
-    tidy = tidy_fetched spare old block content h.tidy;
-    home = fetched_some_home spare old block content h.tidy size h.home;
+    well_formed = well_formed_fetched spare old block content h.well_formed;
+    home = fetched_some_home spare old block content h.well_formed size h.home;
     planned = h.planned;
   }
 
@@ -317,7 +317,7 @@ module _ (P : ℕ → ℕ → List ObjectBytes → List ObjectBytes → Type 0) 
       → IsLawfulCore P (fetch_failed old block)
   lawful_failed old block h = record {
     log = h.log;
-    tidy = tidy_failed old block h.tidy;
+    well_formed = well_formed_failed old block h.well_formed;
     home = (h.home.0, home_failed old block h.home.0 h.home.1);
     planned = h.planned;
   }
@@ -326,8 +326,8 @@ module _ (P : ℕ → ℕ → List ObjectBytes → List ObjectBytes → Type 0) 
       → IsLawfulCore P (with_log_call old)
   lawful_log_out old lawful h = record {
     log = lawful;
-    tidy = tidy_call old (with_log_out old.log) (old.log_calls + 1) old.inst_calls
-        (tidy_log old (with_log_out old.log) refl refl h.tidy);
+    well_formed = well_formed_call old (with_log_out old.log) (old.log_calls + 1) old.inst_calls
+        (well_formed_log old (with_log_out old.log) refl refl h.well_formed);
     home = (h.home.0, home_log_out old h.log h.home.0 h.home.1);
     planned = h.planned;
   }
@@ -337,14 +337,14 @@ module _ (P : ℕ → ℕ → List ObjectBytes → List ObjectBytes → Type 0) 
       → IsLawfulCore P (record old { log = if is_out then with_log_back old.log ok else old.log })
   lawful_log_done old true ok lawful h = record {
     log = lawful;
-    tidy = tidy_log old (with_log_back old.log ok) (back_blocks old.log ok) (back_changes old.log ok) h.tidy;
+    well_formed = well_formed_log old (with_log_back old.log ok) (back_blocks old.log ok) (back_changes old.log ok) h.well_formed;
     home = (h.home.0, home_log_done old true ok h.log h.home.0 h.home.1);
     planned = subst (λ (n : ℕ). All (IsPlanned P n old.inodes) old.records)
         (sym (back_blocks old.log ok)) h.planned;
   }
   lawful_log_done old false ok lawful h = record {
     log = lawful;
-    tidy = tidy_log old old.log refl refl h.tidy;
+    well_formed = well_formed_log old old.log refl refl h.well_formed;
     home = (h.home.0, home_log_done old false ok h.log h.home.0 h.home.1);
     planned = h.planned;
   }
@@ -353,8 +353,8 @@ module _ (P : ℕ → ℕ → List ObjectBytes → List ObjectBytes → Type 0) 
       → IsLawfulCore P (with_inst_call old)
   lawful_inst_out old lawful h = record {
     log = lawful;
-    tidy = tidy_call old (with_inst_out old.log) old.log_calls (old.inst_calls + 1)
-        (tidy_log old (with_inst_out old.log) (out_blocks old.log) (out_changes old.log) h.tidy);
+    well_formed = well_formed_call old (with_inst_out old.log) old.log_calls (old.inst_calls + 1)
+        (well_formed_log old (with_inst_out old.log) (out_blocks old.log) (out_changes old.log) h.well_formed);
     home = (h.home.0, home_inst_out old h.log h.home.0 h.home.1);
     planned = subst (λ (n : ℕ). All (IsPlanned P n old.inodes) old.records)
         (sym (out_blocks old.log)) h.planned;
@@ -367,12 +367,12 @@ module _ (P : ℕ → ℕ → List ObjectBytes → List ObjectBytes → Type 0) 
       let log : Log = if is_out then with_inst_back old.log ok else old.log in
       let seen : HasGoneOn old.log log = seen_inst_done old.log is_out ok h.log in record {
         log = lawful;
-        tidy = tidy_installed spare old log seen.blocks
+        well_formed = well_formed_installed spare old log seen.blocks
             (λ block none. (either (newest log block) (brought_home old.log block)
-            (sym (seen.newest_content block) ∙ none)).0) (done_changes old.log is_out ok h.tidy.changes) h.tidy;
+            (sym (seen.newest_content block) ∙ none)).0) (done_changes old.log is_out ok h.well_formed.changes) h.well_formed;
         home = (
           (if is_out then home_after h.home.0 old.log ok else h.home.0),
-          home_inst_done spare h.home.0 old is_out ok h.log h.tidy h.home.1,
+          home_inst_done spare h.home.0 old is_out ok h.log h.well_formed h.home.1,
         );
         planned = All-filter (λ kept. nat_lt (installed_place log) kept.place)
             (IsPlanned P log.blocks old.inodes) old.records
@@ -382,16 +382,16 @@ module _ (P : ℕ → ℕ → List ObjectBytes → List ObjectBytes → Type 0) 
   pub lawful_commit : (spare : Present → Bool) (old : CoreState) (tx : ℕ) (plan : Planned)
       (group : List (BlockNo × Content)) (log : Log)
       → IsOwn old tx plan → All (λ object. length object.bytes ≡ object.addr.len) plan.written
-      → group_blocks group ≡ blocks_of plan.written → All (IsLaid old.present old.log plan.written) group
+      → group_blocks group ≡ blocks_of plan.written → All (IsOverlaid old.present old.log plan.written) group
       → GrowsBy old.log group log → log.blocks ≡ old.log.blocks → IsLawful log → All IsWholeChange log.changes
       → P plan.blocks plan.inodes plan.read plan.written → IsLawfulCore P old
       → IsLawfulCore P (committed spare old tx plan log)
   lawful_commit spare old tx plan group log own sizes blocks contents grown same lawful whole is_plan h = record {
     log = lawful;
-    tidy = tidy_commit spare old tx plan group log own blocks grown h.tidy same whole;
+    well_formed = well_formed_commit spare old tx plan group log own blocks grown h.well_formed same whole;
     home = (
       h.home.0,
-      commit_home spare h.home.0 old tx plan group log h.log h.tidy own sizes blocks contents grown same h.home.1,
+      commit_home spare h.home.0 old tx plan group log h.log h.well_formed own sizes blocks contents grown same h.home.1,
     );
     planned = go (nat_lt (installed_place log) log.places);
   }

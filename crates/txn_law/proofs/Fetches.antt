@@ -21,7 +21,7 @@ use Rattle.objects.specs.Present.{filled}
 use Rattle.txn_law.specs.Window.{now_of, IsPinned, ArePinned, IsCurrent, IsWindowOver}
 use Rattle.txn_law.proofs.HomeReads.{not_brought}
 use Rattle.txn_law.proofs.Moves.{home_is_current, other_memory}
-use Rattle.txn_law.proofs.Swept.{all_beside, in_beside, in_more, window_swept}
+use Rattle.txn_law.proofs.Swept.{all_with_resident, in_with_resident, in_more, window_swept}
 
 pub home_stays : (base : Image) (log : Log) (ok : Bool) (block : ℕ) → newest log block ≡ None
     → home_after base log ok block ≡ base block
@@ -53,7 +53,7 @@ module _ (P : ℕ × Content → Type 0) (block : BlockNo) (content : Content) w
           all_one resident.block resident.content (held_of later)
           (subst (λ (n : ℕ). P (n, content)) (sym (eqb-true resident.block.0 block.0 e)) new) h
       go rest false e =
-          all_beside P (λ x. true) resident.block resident.content (held_of later)
+          all_with_resident P (λ x. true) resident.block resident.content (held_of later)
           (held_of (filled later block content)) rest h
 
 -- and what was there is still there
@@ -76,7 +76,7 @@ module _ (number : ℕ) (old : Content) (block : BlockNo) (content : Content) wh
           else resident ∷ filled later block content)) (number, old)
       go rest true = in_one resident.block resident.content (held_of later) h
       go rest false =
-          in_beside number old (λ x. true) resident.block resident.content (held_of later)
+          in_with_resident number old (λ x. true) resident.block resident.content (held_of later)
           (held_of (filled later block content)) rest h
 
 pub core_fetched : (spare : Present → Bool) (base : Image) (core : CoreState) (block : BlockNo) (content : Content)
@@ -102,10 +102,10 @@ held_of-failed block [] = refl
 held_of-failed block (resident ∷ later) =
     go (held_of-failed block later) (nat_eq resident.block.0 block.0) resident.content refl
   where
-    beside : (there : Option Content) (xs ys : List (ℕ × Content)) → xs ≡ ys
+    unaffected_by_write : (there : Option Content) (xs ys : List (ℕ × Content)) → xs ≡ ys
         → with_resident resident.block there xs ≡ with_resident resident.block there ys
-    beside (Some c) xs ys e = ap (λ zs. (resident.block.0, c) ∷ zs) e
-    beside None xs ys e = e
+    unaffected_by_write (Some c) xs ys e = ap (λ zs. (resident.block.0, c) ∷ zs) e
+    unaffected_by_write None xs ys e = e
 
     go : held_of (filter (λ (e : Present). not (nat_eq e.block.0 block.0) || is_some e.content) later)
         ≡ held_of later → (t : Bool) (there : Option Content) → resident.content ≡ there
@@ -114,7 +114,7 @@ held_of-failed block (resident ∷ later) =
         (filter (λ (e : Present). not (nat_eq e.block.0 block.0) || is_some e.content) later))
         ≡ with_resident resident.block resident.content (held_of later)
     go rest false there e =
-        beside resident.content
+        unaffected_by_write resident.content
         (held_of (filter (λ (e : Present). not (nat_eq e.block.0 block.0) || is_some e.content) later))
         (held_of later) rest
     go rest true (Some c) e =
@@ -122,7 +122,7 @@ held_of-failed block (resident ∷ later) =
         (cond (is_some o) (resident ∷ filter (λ (e : Present). not (nat_eq e.block.0 block.0)
         || is_some e.content) later)
         (filter (λ (e : Present). not (nat_eq e.block.0 block.0) || is_some e.content) later))) e
-        ∙ beside resident.content
+        ∙ unaffected_by_write resident.content
         (held_of (filter (λ (e : Present). not (nat_eq e.block.0 block.0) || is_some e.content) later))
         (held_of later) rest
     go rest true None e =

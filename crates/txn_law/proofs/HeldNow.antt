@@ -10,14 +10,14 @@ use Rattle.txn_law.specs.Core.{CoreState}
 use Rattle.txn_law.specs.CoreWindow.{held_of, IsHomeOf}
 use Rattle.objects.specs.Object.{ObjectBytes}
 use Rattle.txn_law.specs.Window.{IsAsRead, IsCurrent, now_of, object_at, part}
-use Rattle.txn_law.specs.Wishes.{IsHeld}
+use Rattle.txn_law.specs.LockAnswers.{IsHeld}
 use Rattle.txn_law.proofs.CoreCommits.{found_in}
-use Rattle.txn_law.proofs.Wishes.{current_is_now}
+use Rattle.txn_law.proofs.LockAnswers.{current_is_now}
 
-pub told_now : (base : Image) (old new : CoreState) (tx : ℕ) (addr : Addr) (mode : Mode) (bytes : List ℕ)
+pub held_is_current : (base : Image) (old new : CoreState) (tx : ℕ) (addr : Addr) (mode : Mode) (bytes : List ℕ)
     → IsHomeOf base old → IsHeld old tx addr mode bytes new
     → bytes ≡ object_at (now_of base old.log old.records) addr
-told_now base old new tx addr mode bytes home held =
+held_is_current base old new tx addr mode bytes home held =
     held.bytes_there
     ∙ ap (λ (c : Content). part c addr) (current_is_now base old addr.block held.content home.window
     held.current)

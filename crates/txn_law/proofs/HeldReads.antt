@@ -8,7 +8,7 @@ use Rattle.objects.specs.declared.addr.Addr.{Addr}
 use Rattle.objects.specs.declared.mode.Mode.{Mode}
 use Rattle.circ.specs.Log.Log.{Log, installed_place}
 use Rattle.txn_law.specs.Core.{CoreState, past, installed, ended}
-use Rattle.txn_law.specs.CoreWindow.{KeepsReads}
+use Rattle.txn_law.specs.CoreWindow.{PreservesReads}
 use Rattle.txn_law.specs.Fetch.{Fetch}
 use Rattle.txn_law.specs.Fetched.{fetched, fetch_failed}
 use Rattle.objects.specs.Present.{filled}
@@ -21,7 +21,7 @@ use Rattle.objects.specs.declared.present.Present.{Present}
 use Rattle.txn_law.proofs.Claims.{found_by, all_four}
 use Rattle.objects.proofs.Residents.{same_block, filled_content}
 use Rattle.txn_law.proofs.TakenBy.{taken_with, taken_released}
-use Rattle.txn_law.proofs.Tidied.{block_stays, taken_one, taken_stays, failed_stays}
+use Rattle.txn_law.proofs.StaysWellFormed.{block_stays, taken_one, taken_stays, failed_stays}
 
 pub some_read : (o : Option Hold) → is_read o ≡ true → (x : Hold) × (o ≡ Some x) × (x.is_read ≡ true)
 some_read None e = absurd (cc)
@@ -51,13 +51,13 @@ taken_read holds t a reads =
     ap (is_taken holds) (sym (same_block x.addr.block a.block (eqb-true x.addr.block.0 a.block.0 four.1)))
     ∙ taken_one holds x there
 
-keeps : (old new : CoreState) (t : ℕ)
+preserves : (old new : CoreState) (t : ℕ)
     → ((a : Addr) → is_read (hold_of old.holds t a) ≡ true → is_read (hold_of new.holds t a) ≡ true)
     → ((a : Addr) (c : Content) → is_read (hold_of old.holds t a) ≡ true
     → content_in (present_of old.present a.block) ≡ Some c
     → content_in (present_of new.present a.block) ≡ Some c)
-    → KeepsReads old new t
-keeps old new t holds contents object h = record {
+    → PreservesReads old new t
+preserves old new t holds contents object h = record {
   held = holds object.addr h.held;
   current = record {
     content = h.current.content;
@@ -67,24 +67,24 @@ keeps old new t holds contents object h = record {
 }
 
 pub reads_held : (old new : CoreState) (tx : ℕ) (addr : Addr) (mode : Mode) (bytes : List ℕ) (t : ℕ)
-    → IsHeldExactly old tx addr mode bytes new → KeepsReads old new t
+    → IsHeldExactly old tx addr mode bytes new → PreservesReads old new t
 reads_held old new tx addr mode bytes t held =
-    subst (λ (core : CoreState). KeepsReads old core t) (sym held.core)
-    (keeps old (taken old (for_reading tx addr mode) (Some held.content)) t
+    subst (λ (core : CoreState). PreservesReads old core t) (sym held.core)
+    (preserves old (taken old (for_reading tx addr mode) (Some held.content)) t
     (read_grows old.holds (for_reading tx addr mode) t)
     (λ a c reads. block_stays old.present addr.block (Some held.content) a.block c))
 
 pub reads_fetch : (old new : CoreState) (tx : ℕ) (addr : Addr) (mode : Mode) (io : Fetch) (t : ℕ)
-    → IsFetchedExactly old tx addr mode io new → KeepsReads old new t
+    → IsFetchedExactly old tx addr mode io new → PreservesReads old new t
 reads_fetch old new tx addr mode io t fetch =
-    subst (λ (core : CoreState). KeepsReads old core t) (sym fetch.core)
-    (keeps old (taken old (for_fetching tx addr mode) None) t
+    subst (λ (core : CoreState). PreservesReads old core t) (sym fetch.core)
+    (preserves old (taken old (for_fetching tx addr mode) None) t
     (read_grows old.holds (for_fetching tx addr mode) t)
     (λ a c reads. block_stays old.present addr.block None a.block c))
 
-pub reads_claim : (old : CoreState) (tx : ℕ) (addr : Addr) (t : ℕ) → KeepsReads old (claimed old tx addr) t
+pub reads_claim : (old : CoreState) (tx : ℕ) (addr : Addr) (t : ℕ) → PreservesReads old (claimed old tx addr) t
 reads_claim old tx addr t =
-    keeps old (claimed old tx addr) t
+    preserves old (claimed old tx addr) t
     (read_grows old.holds (for_writing tx addr) t)
     (λ a c reads e. e)
 
@@ -93,38 +93,38 @@ pub left : (holds : List Hold) (tx t : ℕ) (a : Addr) → (t ≡ tx → ⊥)
 left holds tx t a differ =
     taken_released holds tx t a ∙ ap (λ (b : Bool). if b then None else hold_of holds t a) (ne_eqb t tx differ)
 
-pub reads_end : (spare : Present → Bool) (old : CoreState) (tx t : ℕ) → (t ≡ tx → ⊥) → KeepsReads old
+pub reads_end : (spare : Present → Bool) (old : CoreState) (tx t : ℕ) → (t ≡ tx → ⊥) → PreservesReads old
     (ended spare old tx) t
 reads_end spare old tx t differ =
-    keeps old (ended spare old tx) t (λ a reads. ap is_read (left old.holds tx t a differ) ∙ reads)
+    preserves old (ended spare old tx) t (λ a reads. ap is_read (left old.holds tx t a differ) ∙ reads)
     (λ a c reads e. taken_stays spare (released old.holds tx) old.records old.present a.block c
     (taken_read (released old.holds tx) t a (ap is_read (left old.holds tx t a differ) ∙ reads)) e)
 
 pub reads_fetched : (spare : Present → Bool) (old : CoreState) (block : BlockNo) (content : Content) (t : ℕ)
-    → KeepsReads old (fetched spare old block content) t
+    → PreservesReads old (fetched spare old block content) t
 reads_fetched spare old block content t =
-    keeps old (fetched spare old block content) t (λ a reads. reads)
+    preserves old (fetched spare old block content) t (λ a reads. reads)
     (λ a c reads e. taken_stays spare old.holds old.records (filled old.present block content) a.block c
     (taken_read old.holds t a reads) (filled_content block content old.present a.block c e))
 
-pub reads_failed : (old : CoreState) (block : BlockNo) (t : ℕ) → KeepsReads old (fetch_failed old block) t
+pub reads_failed : (old : CoreState) (block : BlockNo) (t : ℕ) → PreservesReads old (fetch_failed old block) t
 reads_failed old block t =
-    keeps old (fetch_failed old block) t (λ a reads. reads)
+    preserves old (fetch_failed old block) t (λ a reads. reads)
     (λ a c reads e. failed_stays old.present block a.block c e)
 
-pub reads_log : (old : CoreState) (log : Log) (t : ℕ) → KeepsReads old (record old { log = log }) t
-reads_log old log t = keeps old (record old { log = log }) t (λ a reads. reads) (λ a c reads e. e)
+pub reads_log : (old : CoreState) (log : Log) (t : ℕ) → PreservesReads old (record old { log = log }) t
+reads_log old log t = preserves old (record old { log = log }) t (λ a reads. reads) (λ a c reads e. e)
 
 -- whatever is counted, too
 pub reads_call : (old : CoreState) (log : Log) (log_calls inst_calls t : ℕ)
-    → KeepsReads old (record old { log = log; log_calls = log_calls; inst_calls = inst_calls }) t
+    → PreservesReads old (record old { log = log; log_calls = log_calls; inst_calls = inst_calls }) t
 reads_call old log log_calls inst_calls t =
-    keeps old (record old { log = log; log_calls = log_calls; inst_calls = inst_calls }) t (λ a reads. reads)
+    preserves old (record old { log = log; log_calls = log_calls; inst_calls = inst_calls }) t (λ a reads. reads)
     (λ a c reads e. e)
 
-pub reads_installed : (spare : Present → Bool) (old : CoreState) (log : Log) (t : ℕ) → KeepsReads old
+pub reads_installed : (spare : Present → Bool) (old : CoreState) (log : Log) (t : ℕ) → PreservesReads old
     (installed spare old log) t
 reads_installed spare old log t =
-    keeps old (installed spare old log) t (λ a reads. reads)
+    preserves old (installed spare old log) t (λ a reads. reads)
     (λ a c reads e. taken_stays spare old.holds (past (installed_place log) old.records) old.present a.block c
     (taken_read old.holds t a reads) e)

@@ -6,7 +6,7 @@ use Rattle.std.proofs.Common.{Ok, Err}
 use Rattle.std.specs.Prelude.{Contains, is_ok, is_err}
 use Rattle.std.proofs.lemmas.Bool.{cases_lt, eqb-true, eqb-false, eq-eqb, ne_eqb}
 use Rattle.std.proofs.lemmas.List.{take-append-drop, length-drop, get_or_default}
-use Rattle.disk.specs.Device.{Content, Device, current, newest as newest_content, newest_alone, is_on}
+use Rattle.disk.specs.Device.{Content, Device, current, newest as newest_content, newest_only, is_on}
 use Rattle.disk.specs.Device.{Appends, Settles, HasRead, HasWritten}
 use Rattle.disk.specs.Crash.{Image}
 use Rattle.disk.specs.declared.device.Failed.{Failed}
@@ -18,7 +18,7 @@ use Rattle.circ.specs.declared.log.change.LogChange.{LogChange}
 use Rattle.circ.specs.declared.log.calls.IoCall.{IoCall}
 use Rattle.circ.specs.declared.log.calls.IoCall.TheVariants.{Write, Barrier}
 use Rattle.circ.specs.Log.Io.{Io, HasMade, HasMadeCall}
-use Rattle.circ.specs.Log.Calls.{Pending, idle, out, was_made, AgreesBeside}
+use Rattle.circ.specs.Log.Calls.{Pending, idle, out, was_made, AgreesWithPending}
 use Rattle.circ.specs.Log.Law.{IsOutside, with_changes}
 use Rattle.circ.specs.Log.Log.{Log, IsLawful, IsHomeOn, newest, newest_of, or_else, log_end}
 use Rattle.circ.specs.Log.Logger.{slot_block, IsNextLogCall, with_log_out, with_log_back}
@@ -54,15 +54,15 @@ has_newest contents some = (
 )
 
 pub read_home : (d : Device) (base : Image) (log : Log) (logging installing : Pending) (block : ℕ)
-    → AgreesBeside d base log logging installing
+    → AgreesWithPending d base log logging installing
     → IsReadable d log installing → HasContents d → IsOutside log.blocks block → newest log block ≡ None
-    → (d.spoiled block ≡ false) × (newest_content (current d block) ≡ base block)
+    → (d.uncertain block ≡ false) × (newest_content (current d block) ≡ base block)
 read_home d base log logging installing block s readable there outside none =
-    (unspoiled (d.spoiled block) refl, content)
+    (certain (d.uncertain block) refl, content)
   where
-    unspoiled : (t : Bool) → d.spoiled block ≡ t → d.spoiled block ≡ false
-    unspoiled true e = absurd (readable.logged block outside e none)
-    unspoiled false e = e
+    certain : (t : Bool) → d.uncertain block ≡ t → d.uncertain block ≡ false
+    certain true e = absurd (readable.logged block outside e none)
+    certain false e = e
 
     member : Contains (current d block) (newest_content (current d block))
     member = has_newest (current d block) (there block (omega (arith, outside.0, s.agrees.size)))
@@ -82,7 +82,7 @@ read_home d base log logging installing block s readable there outside none =
 
 pub read_current : (d : Device) (base : Image) (log : Log) (logging installing : Pending)
     (commits : List Footprint) (held : List (ℕ × Content)) (block : ℕ)
-    → AgreesBeside d base log logging installing
+    → AgreesWithPending d base log logging installing
     → IsReadable d log installing → HasContents d → IsWindowOver base log commits held
     → IsOutside log.blocks block → newest log block ≡ None
     → newest_content (current d block) ≡ now_of base log commits block
@@ -101,13 +101,13 @@ stuck_as log new (was_made io (Err u)) broken h = h
 readable_as : (d e : Device) (log new : Log) (p : Pending) → new.blocks ≡ log.blocks
     → (log.broken ≡ true → new.broken ≡ true)
     → ((block : ℕ) → newest new block ≡ None → newest log block ≡ None)
-    → ((block : ℕ) → IsOutside log.blocks block → e.spoiled block ≡ true → d.spoiled block ≡ true)
+    → ((block : ℕ) → IsOutside log.blocks block → e.uncertain block ≡ true → d.uncertain block ≡ true)
     → IsReadable d log p → IsReadable e new p
-readable_as d e log new p blocks broken has spoiled h = record {
+readable_as d e log new p blocks broken has uncertain h = record {
   logged = λ block outside bad none. h.logged block (there block outside)
-      (spoiled block (there block outside) bad) (has block none);
+      (uncertain block (there block outside) bad) (has block none);
   stuck = λ block outside bad. stuck_as log new p broken
-      (h.stuck block (there block outside) (spoiled block (there block outside) bad));
+      (h.stuck block (there block outside) (uncertain block (there block outside) bad));
 }
   where
     there : (block : ℕ) → IsOutside new.blocks block → IsOutside log.blocks block
@@ -124,13 +124,13 @@ pub readable_read : (old new : Device) (log : Log) (p : Pending) → HasRead old
     → IsReadable new log p
 readable_read old new log p read h =
     readable_as old new log log p refl (λ b. b) (λ block none. none)
-    (λ block outside bad. sym (read.spoiled block) ∙ bad) h
+    (λ block outside bad. sym (read.uncertain block) ∙ bad) h
 
--- a write spoils no other block, and its own only where it fails
-spoils_other : (old new : Device) (block at : ℕ) (content : Content) (r : Result Unit Failed)
-    → HasWritten old block content r new → at ≢ block → new.spoiled at ≡ true → old.spoiled at ≡ true
-spoils_other old new block at content r h differs bad =
-    go (old.spoiled at) (is_err r) (sym (h.spoiled at) ∙ bad)
+-- a write makes no other block uncertain, and its own only where it fails
+makes_other_uncertain : (old new : Device) (block at : ℕ) (content : Content) (r : Result Unit Failed)
+    → HasWritten old block content r new → at ≢ block → new.uncertain at ≡ true → old.uncertain at ≡ true
+makes_other_uncertain old new block at content r h differs bad =
+    go (old.uncertain at) (is_err r) (sym (h.uncertain at) ∙ bad)
   where
     go : (s t : Bool) → (s || (t && nat_eq at block)) ≡ true → s ≡ true
     go true t e = refl
@@ -140,19 +140,19 @@ spoils_other old new block at content r h differs bad =
         none true e = absurd (cc)
         none false e = absurd (cc)
 
-spoils_none : (old new : Device) (block at : ℕ) (content : Content) → HasWritten old block content (Ok tt) new
-    → new.spoiled at ≡ true → old.spoiled at ≡ true
-spoils_none old new block at content h bad = go (old.spoiled at) (sym (h.spoiled at) ∙ bad)
+makes_none_uncertain : (old new : Device) (block at : ℕ) (content : Content) → HasWritten old block content (Ok tt) new
+    → new.uncertain at ≡ true → old.uncertain at ≡ true
+makes_none_uncertain old new block at content h bad = go (old.uncertain at) (sym (h.uncertain at) ∙ bad)
   where
     go : (s : Bool) → (s || (false && nat_eq at block)) ≡ true → s ≡ true
     go true e = refl
     go false e = e
 
-pub readable_beside : (old new : Device) (log : Log) (block : ℕ) (content : Content) (p : Pending)
+pub readable_unaffected : (old new : Device) (log : Log) (block : ℕ) (content : Content) (p : Pending)
     → HasWritten old block content (Ok tt) new → IsReadable old log p → IsReadable new log p
-readable_beside old new log block content p made h =
+readable_unaffected old new log block content p made h =
     readable_as old new log log p refl (λ b. b) (λ block none. none)
-    (λ at outside bad. spoils_none old new block at content made bad) h
+    (λ at outside bad. makes_none_uncertain old new block at content made bad) h
 
 pub contents_made : (old new : Device) (io : Io) (r : Result Unit Failed) → HasMade old io r new
     → HasContents old → HasContents new
@@ -167,7 +167,7 @@ contents_made old new io r made h = go io.call made
         omega (arith, ap length e, length-append before (wrote ∷ []))
 
     settled_some : (t : Bool) (before with_changes : List Content)
-        → with_changes ≡ (if t then newest_alone before else before) → 0 < length before
+        → with_changes ≡ (if t then newest_only before else before) → 0 < length before
         → 0 < length with_changes
     settled_some true before with_changes e some =
         omega (arith, ap length e, length-drop (length before - 1) before)
@@ -223,15 +223,15 @@ readable_log_back d log true p h = go (nat_eq log.log_step (log.taken + 2))
     go false = readable_as d d log (record log { log_step = log.log_step + 1; log_out = false }) p refl
         (λ b. b) (λ block none. none) (λ block outside bad. bad) h
 
--- a barrier spoils nothing
-spoils_barrier : (old new : Device) (io : Io) (side : Side) (r : Result Unit Failed) (at : ℕ)
-    → io.call ≡ Barrier side → HasMade old io r new → new.spoiled at ≡ true → old.spoiled at ≡ true
-spoils_barrier old new io side r at e made bad = sym ((made_barrier old new io side r e made).spoiled at)
+-- a barrier makes nothing uncertain
+barrier_makes_uncertain : (old new : Device) (io : Io) (side : Side) (r : Result Unit Failed) (at : ℕ)
+    → io.call ≡ Barrier side → HasMade old io r new → new.uncertain at ≡ true → old.uncertain at ≡ true
+barrier_makes_uncertain old new io side r at e made bad = sym ((made_barrier old new io side r e made).uncertain at)
     ∙ bad
 
 pub readable_log_made : (old new : Device) (base : Image) (log : Log) (io : Io) (r : Result Unit Failed)
     (p : Pending) → IsLawful log → HasMade old io r new
-    → AgreesBeside old base log (out io) p → IsReadable old log p → IsReadable new log p
+    → AgreesWithPending old base log (out io) p → IsReadable old log p → IsReadable new log p
 readable_log_made old new base log io r p lawful made s h =
     readable_as old new log log p refl (λ b. b) (λ block none. none)
     (λ at outside bad. spared at outside bad (step_of log.log_step log.taken lawful.log_step)) h
@@ -239,34 +239,34 @@ readable_log_made old new base log io r p lawful made s h =
     next : IsNextLogCall log io
     next = s.logger.1
 
-    spared : (at : ℕ) → IsOutside log.blocks at → new.spoiled at ≡ true → Step log.log_step log.taken
-        → old.spoiled at ≡ true
+    spared : (at : ℕ) → IsOutside log.blocks at → new.uncertain at ≡ true → Step log.log_step log.taken
+        → old.uncertain at ≡ true
     spared at outside bad step = go step
       where
         apart : (other : ℕ) → LOG_HEADER_BLOCK ≤ other → other < START_BLOCK → at ≢ other
         apart other low high e =
             elim (outside.1) as (λ _. ⊥) [ inl below ↦ omega (arith, e) | inr above ↦ omega (arith, e) ]
 
-        go : Step log.log_step log.taken → old.spoiled at ≡ true
+        go : Step log.log_step log.taken → old.uncertain at ≡ true
         go (writes lt) =
             let found = change_at log (log.logged + log.log_step) lawful
             (omega (arith, lawful.taken_within)) in
             let slot : ℕ = slot_block (log_end log + log.log_step) in
-            spoils_other old new slot at io.content r
+            makes_other_uncertain old new slot at io.content r
             (made_write old new io (record { 0 = slot }) r (next.body lt found.0 found.1).0 made)
             (apart slot (omega arith) (omega arith)) bad
-        go (settles step) = spoils_barrier old new io OnLog r at (next.body_barrier step) made bad
+        go (settles step) = barrier_makes_uncertain old new io OnLog r at (next.body_barrier step) made bad
         go (tells step) =
-            spoils_other old new LOG_HEADER_BLOCK at io.content r
+            makes_other_uncertain old new LOG_HEADER_BLOCK at io.content r
             (made_write old new io (record { 0 = LOG_HEADER_BLOCK }) r (next.header step).0 made)
             (apart LOG_HEADER_BLOCK (omega arith) (omega arith)) bad
-        go (ends step) = spoils_barrier old new io OnLog r at (next.header_barrier step) made bad
+        go (ends step) = barrier_makes_uncertain old new io OnLog r at (next.header_barrier step) made bad
 
 pub readable_inst_out : (d : Device) (log : Log) (io : Io) → log.broken ≡ false → IsReadable d log idle
     → IsReadable d (with_inst_out log) (out io)
 readable_inst_out d log io sound h = go (nat_lt 0 log.installing)
   where
-    none : (block : ℕ) → IsOutside log.blocks block → d.spoiled block ≡ true → ⊥
+    none : (block : ℕ) → IsOutside log.blocks block → d.uncertain block ≡ true → ⊥
     none block outside bad = absurd (let no : true ≡ false = sym (h.stuck block outside bad) ∙ sound in cc)
 
     go : (t : Bool) → IsReadable d (if t
@@ -302,27 +302,27 @@ has_block (x ∷ xs) (suc k) change is none =
 
 pub readable_inst_made : (old new : Device) (base : Image) (log : Log) (io : Io) (r : Result Unit Failed)
     (p : Pending) → IsLawful log → HasMade old io r new
-    → AgreesBeside old base log p (out io) → IsReadable old log (out io) → IsReadable new log (was_made io r)
+    → AgreesWithPending old base log p (out io) → IsReadable old log (out io) → IsReadable new log (was_made io r)
 readable_inst_made old new base log io r p lawful made s h = record {
-  logged = λ at outside bad none. (spoiled at outside bad).0 none;
-  stuck = λ at outside bad. (spoiled at outside bad).1;
+  logged = λ at outside bad none. (uncertain at outside bad).0 none;
+  stuck = λ at outside bad. (uncertain at outside bad).1;
 }
   where
     next : IsNextInstCall log io
     next = s.installer.1
 
-    -- nothing was spoiled while a call was out
-    sound : (at : ℕ) → IsOutside log.blocks at → old.spoiled at ≡ true → ⊥
+    -- nothing became uncertain while a call was out
+    sound : (at : ℕ) → IsOutside log.blocks at → old.uncertain at ≡ true → ⊥
     sound at outside bad = h.stuck at outside bad
 
     failed : (block at : ℕ) (r : Result Unit Failed) → HasWritten old block io.content r new
-        → (old.spoiled at ≡ true → ⊥) → new.spoiled at ≡ true → IsStuck log (was_made io r)
-    failed block at (Ok u) w clean bad = clean (spoils_none old new block at io.content w bad)
+        → (old.uncertain at ≡ true → ⊥) → new.uncertain at ≡ true → IsStuck log (was_made io r)
+    failed block at (Ok u) w clean bad = clean (makes_none_uncertain old new block at io.content w bad)
     failed block at (Err u) w clean bad = tt
 
-    spoiled : (at : ℕ) → IsOutside log.blocks at → new.spoiled at ≡ true → (newest log at ≡ None → ⊥)
+    uncertain : (at : ℕ) → IsOutside log.blocks at → new.uncertain at ≡ true → (newest log at ≡ None → ⊥)
         × IsStuck log (was_made io r)
-    spoiled at outside bad = go (step_of log.inst_step log.installing lawful.inst_step)
+    uncertain at outside bad = go (step_of log.inst_step log.installing lawful.inst_step)
       where
         go : Step log.inst_step log.installing → (newest log at ≡ None → ⊥) × IsStuck log (was_made io r)
         go (writes lt) =
@@ -346,20 +346,20 @@ readable_inst_made old new base log io r p lawful made s h = record {
                     )
                 by false e =
                     absurd (sound at outside
-                    (spoils_other old new found.0.block.0 at io.content r w (eqb-false at found.0.block.0 e)
+                    (makes_other_uncertain old new found.0.block.0 at io.content r w (eqb-false at found.0.block.0 e)
                     bad))
         go (settles step) =
-            absurd (sound at outside (spoils_barrier old new io Home r at (next.home_barrier step) made bad))
+            absurd (sound at outside (barrier_makes_uncertain old new io Home r at (next.home_barrier step) made bad))
         go (tells step) =
             absurd (sound at outside
-            (spoils_other old new START_BLOCK at io.content r
+            (makes_other_uncertain old new START_BLOCK at io.content r
             (made_write old new io (record { 0 = START_BLOCK }) r (next.start step).0 made)
             (λ e. elim (outside.1) as (λ _. ⊥) [
               | inl below ↦ omega (arith, e)
               | inr above ↦ omega (arith, e)
             ]) bad))
         go (ends step) =
-            absurd (sound at outside (spoils_barrier old new io Home r at (next.start_barrier step) made bad))
+            absurd (sound at outside (barrier_makes_uncertain old new io Home r at (next.start_barrier step) made bad))
 
 pub readable_inst_back : (d : Device) (log : Log) (io : Io) (r : Result Unit Failed)
     → IsReadable d log (was_made io r) → IsReadable d (with_inst_back log (is_ok r)) idle

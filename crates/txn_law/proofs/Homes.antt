@@ -11,7 +11,7 @@ use Rattle.disk.specs.Device.{Content, Device, current, newest as newest_content
 use Rattle.disk.specs.Crash.{Image}
 use Rattle.disk.specs.declared.block.BlockNo.{BlockNo}
 use Rattle.circ.specs.declared.log.change.LogChange.{LogChange}
-use Rattle.circ.specs.Log.Calls.{AgreesBeside, Pending, home_after}
+use Rattle.circ.specs.Log.Calls.{AgreesWithPending, Pending, home_after}
 use Rattle.circ.specs.Log.Grows.{GrowsBy}
 use Rattle.circ.specs.Log.Law.{with_changes, with_home}
 use Rattle.circ.specs.Log.Log.{Log, IsLawful, IsHomeOn, newest, newest_of, or_else, blocks_of as group_blocks}
@@ -21,11 +21,11 @@ use Rattle.txn_law.specs.Core.{CoreState}
 use Rattle.txn_law.specs.CoreWindow.{with_resident, held_of, IsCoreWindow, AreBlocks, IsHomeOf}
 use Rattle.txn_law.specs.Fetched.{fetched}
 use Rattle.objects.specs.Present.{filled}
-use Rattle.txn_law.specs.Group.{is_among, blocks_of, IsLaid}
+use Rattle.txn_law.specs.Group.{is_among, blocks_of, IsOverlaid}
 use Rattle.objects.specs.Present.{present_of, is_pending}
 use Rattle.circ.specs.Log.Grows.{IsWholeChange}
 use Rattle.txn_law.specs.HomeRead.{IsReadable, HasContents}
-use Rattle.txn_law.specs.Tidy.{IsUnlogged, IsPlaced, AreTidy}
+use Rattle.txn_law.specs.WellFormed.{IsUnlogged, IsPlaced, IsWellFormed}
 use Rattle.objects.specs.Present.{IsOnce}
 use Rattle.txn_law.specs.Window.{now_of, with_objects}
 use Rattle.objects.specs.declared.present.Present.{Present}
@@ -34,7 +34,7 @@ use Rattle.txn_law.proofs.CoreCommits.{core_committed, core_now}
 use Rattle.objects.proofs.Residents.{is_of, same_block}
 use Rattle.txn_law.proofs.Fetches.{core_fetched}
 use Rattle.txn_law.proofs.HomeReads.{read_home}
-use Rattle.txn_law.proofs.Laid.{among_after}
+use Rattle.txn_law.proofs.OverlaidContent.{among_after}
 use Rattle.txn_law.proofs.Moves.{home_is_current, tail_is_now}
 use Rattle.txn_law.proofs.OtherHome.{other_home}
 use Rattle.txn_law.proofs.Swept.{window_swept, in_cons}
@@ -73,12 +73,12 @@ whole_after blocks base log ok h whole = go (ok && nat_le (log.installing + 2) l
     go false = whole
 
 -- what is current is whole
-pub whole_now : (base : Image) (core : CoreState) → IsHomeOf base core → AreTidy core
+pub whole_now : (base : Image) (core : CoreState) → IsHomeOf base core → IsWellFormed core
     → AreBlocks core.log.blocks (now_of base core.log core.records)
-whole_now base core h tidy block lt =
+whole_now base core h well_formed block lt =
     sym (ap (λ (c : Content). length c) (tail_is_now base core.log core.records (held_of core.present)
     block h.window))
-    ∙ whole_under core.log.blocks base core.log.changes tidy.changes h.whole block lt
+    ∙ whole_under core.log.blocks base core.log.changes well_formed.changes h.whole block lt
 
 whole_with : (blocks : ℕ) (base : Image) (at : ℕ) (content : Content) → length content ≡ BLOCK_BYTES
     → AreBlocks blocks base → AreBlocks blocks (with_home base at content)
@@ -151,9 +151,9 @@ not_filled (x ∷ xs) block content e = go (not_filled xs block content) (nat_eq
         (some x.content e)
     go rest false e = ap (λ ys. x ∷ ys) (rest e)
 
-pub unlogged_block : (core : CoreState) (block : BlockNo) → AreTidy core
+pub unlogged_block : (core : CoreState) (block : BlockNo) → IsWellFormed core
     → is_pending (present_of core.present block) ≡ true → newest core.log block.0 ≡ None
-unlogged_block core block tidy e = go (present_of core.present block) refl e
+unlogged_block core block well_formed e = go (present_of core.present block) refl e
   where
     none : (o : Option Content) → is_none o ≡ true → o ≡ None
     none None e = refl
@@ -165,12 +165,12 @@ unlogged_block core block tidy e = go (present_of core.present block) refl e
     go (Some x) is e =
         let (same, there) = found_by (is_of block) core.present x is in
         subst (λ (n : ℕ). newest core.log n ≡ None) (eqb-true x.block.0 block.0 same)
-        (All-contains (IsUnlogged core.log) core.present x tidy.pending there (none x.content e))
+        (All-contains (IsUnlogged core.log) core.present x well_formed.pending there (none x.content e))
 
 -- a block whose fetch is pending is one that a change may write
-placed_block : (core : CoreState) (block : BlockNo) → AreTidy core
+placed_block : (core : CoreState) (block : BlockNo) → IsWellFormed core
     → is_pending (present_of core.present block) ≡ true → IsHomeOn core.log.blocks block
-placed_block core block tidy e = go (present_of core.present block) refl e
+placed_block core block well_formed e = go (present_of core.present block) refl e
   where
     go : (o : Option Present) → present_of core.present block ≡ o → is_pending o ≡ true
         → IsHomeOn core.log.blocks block
@@ -178,58 +178,58 @@ placed_block core block tidy e = go (present_of core.present block) refl e
     go (Some x) is e =
         let (same, there) = found_by (is_of block) core.present x is in
         subst (IsHomeOn core.log.blocks) (same_block x.block block (eqb-true x.block.0 block.0 same))
-        (All-contains (IsPlaced core.log.blocks) core.present x tidy.placed there)
+        (All-contains (IsPlaced core.log.blocks) core.present x well_formed.placed there)
 
 -- what the disk has of it is what is at home
 pub pending_is_home : (d : Device) (base : Image) (core : CoreState) (logging installing : Pending)
     (block : BlockNo)
-    → AreTidy core → AgreesBeside d base core.log logging installing → IsReadable d core.log installing
+    → IsWellFormed core → AgreesWithPending d base core.log logging installing → IsReadable d core.log installing
     → HasContents d → is_pending (present_of core.present block) ≡ true
     → newest_content (current d block.0) ≡ base block.0
-pending_is_home d base core logging installing block tidy agrees readable contents waits =
-    let home = placed_block core block tidy waits in
+pending_is_home d base core logging installing block well_formed agrees readable contents waits =
+    let home = placed_block core block well_formed waits in
     let low = home.0 in
     (read_home d base core.log logging installing block.0 agrees readable contents
-    (home.1, inr (omega (arith, low))) (unlogged_block core block tidy waits)).1
+    (home.1, inr (omega (arith, low))) (unlogged_block core block well_formed waits)).1
 
 -- a fetch that brings what is at home, where it is pending, keeps what may be at home
 pub fetched_home : (spare : Present → Bool) (base : Image) (core : CoreState) (block : BlockNo)
-    (content : Content) → AreTidy core
+    (content : Content) → IsWellFormed core
     → (is_pending (present_of core.present block) ≡ true → content ≡ base block.0) → IsHomeOf base core
     → IsHomeOf base (fetched spare core block content)
-fetched_home spare base core block content tidy brought h =
+fetched_home spare base core block content well_formed brought h =
     record { whole = h.whole; window = go (is_pending (present_of core.present block)) refl }
   where
     go : (t : Bool) → is_pending (present_of core.present block) ≡ t
         → IsCoreWindow base (fetched spare core block content)
-    go true e = core_fetched spare base core block content (unlogged_block core block tidy e) (brought e) h.window
+    go true e = core_fetched spare base core block content (unlogged_block core block well_formed e) (brought e) h.window
     go false e = window_swept spare base core.log core.records core.holds (filled core.present block content)
         (subst (λ (xs : List Present). IsCoreWindow base (record core { present = xs }))
         (sym (not_filled core.present block content e)) h.window)
 
 -- whatever it brings, there are blocks that may be at home
 pub fetched_some_home : (spare : Present → Bool) (core : CoreState) (block : BlockNo) (content : Content)
-    → AreTidy core
+    → IsWellFormed core
     → length content ≡ BLOCK_BYTES → ((base : Image) × IsHomeOf base core)
     → (base : Image) × IsHomeOf base (fetched spare core block content)
-fetched_some_home spare core block content tidy size (base, h) = go (is_pending (present_of core.present block)) refl
+fetched_some_home spare core block content well_formed size (base, h) = go (is_pending (present_of core.present block)) refl
   where
     go : (t : Bool) → is_pending (present_of core.present block) ≡ t
         → (base : Image) × IsHomeOf base (fetched spare core block content)
     go true e =
         let other : Image = with_home base block.0 content in (
           other,
-          fetched_home spare other core block content tidy
+          fetched_home spare other core block content well_formed
               (λ waits. sym (ap (λ (t : Bool). if t then content else base block.0)
               (eq-eqb block.0 block.0 refl)))
               (record {
                 whole = whole_with core.log.blocks base block.0 content size h.whole;
                 window = other_home base core.log core.records (held_of core.present) block.0 content
-                    (unlogged_block core block tidy e)
-                    (λ c. waits_away core.present block c tidy.once e) h.window;
+                    (unlogged_block core block well_formed e)
+                    (λ c. waits_away core.present block c well_formed.once e) h.window;
               }),
         )
-    go false e = (base, fetched_home spare base core block content tidy (λ waits. absurd (cc)) h)
+    go false e = (base, fetched_home spare base core block content well_formed (λ waits. absurd (cc)) h)
 
 among_all : (P : BlockNo → Type 0) (block : BlockNo) (blocks : List BlockNo) → All P blocks
     → is_among block blocks ≡ true → P block
@@ -242,11 +242,11 @@ among_all P block (b ∷ bs) h e = go (among_all P block bs (All-tail P b bs h))
     go rest false is e = rest e
 
 is_committed : (base : Image) (old : CoreState) (tx : ℕ) (plan : Planned) (group : List (BlockNo × Content))
-    (log : Log) → AreTidy old → IsOwn old tx plan
+    (log : Log) → IsWellFormed old → IsOwn old tx plan
     → All (λ object. length object.bytes ≡ object.addr.len) plan.written
-    → group_blocks group ≡ blocks_of plan.written → All (IsLaid old.present old.log plan.written) group
+    → group_blocks group ≡ blocks_of plan.written → All (IsOverlaid old.present old.log plan.written) group
     → GrowsBy old.log group log → IsHomeOf base old → IsCommitted base old tx plan group log
-is_committed base old tx plan group log tidy own sizes blocks contents grown h = record {
+is_committed base old tx plan group log well_formed own sizes blocks contents grown h = record {
   grown = grown;
   blocks = blocks;
   contents = contents;
@@ -255,31 +255,31 @@ is_committed base old tx plan group log tidy own sizes blocks contents grown h =
     sym (ap length (home_is_current base old.log old.records (held_of old.present) block.0 none h.window))
         ∙ h.whole block.0 (among_all (IsHomeOn old.log.blocks) block (blocks_of plan.written) own.homes
         (among_after block [] plan.written ∙ lies)).1,
-    whole_writes old tx plan.written block tidy own.written sizes absent,
+    whole_writes old tx plan.written block well_formed own.written sizes absent,
   );
 }
 
 pub commit_home : (spare : Present → Bool) (base : Image) (old : CoreState) (tx : ℕ) (plan : Planned)
     (group : List (BlockNo × Content))
-    (log : Log) → IsLawful old.log → AreTidy old → IsOwn old tx plan
+    (log : Log) → IsLawful old.log → IsWellFormed old → IsOwn old tx plan
     → All (λ object. length object.bytes ≡ object.addr.len) plan.written
-    → group_blocks group ≡ blocks_of plan.written → All (IsLaid old.present old.log plan.written) group
+    → group_blocks group ≡ blocks_of plan.written → All (IsOverlaid old.present old.log plan.written) group
     → GrowsBy old.log group log → log.blocks ≡ old.log.blocks → IsHomeOf base old
     → IsHomeOf base (committed spare old tx plan log)
-commit_home spare base old tx plan group log lawful tidy own sizes blocks contents grown same h = record {
+commit_home spare base old tx plan group log lawful well_formed own sizes blocks contents grown same h = record {
   whole = subst (λ (n : ℕ). AreBlocks n base) (sym same) h.whole;
   window = core_committed spare base old tx plan group log lawful
-      (is_committed base old tx plan group log tidy own sizes blocks contents grown h) h.window;
+      (is_committed base old tx plan group log well_formed own sizes blocks contents grown h) h.window;
 }
 
 -- a commit sets what it writes, and nothing else
 pub commit_sets : (base : Image) (old : CoreState) (tx : ℕ) (plan : Planned) (group : List (BlockNo × Content))
-    (log : Log) → IsLawful old.log → AreTidy old → IsOwn old tx plan
+    (log : Log) → IsLawful old.log → IsWellFormed old → IsOwn old tx plan
     → All (λ object. length object.bytes ≡ object.addr.len) plan.written
-    → group_blocks group ≡ blocks_of plan.written → All (IsLaid old.present old.log plan.written) group
+    → group_blocks group ≡ blocks_of plan.written → All (IsOverlaid old.present old.log plan.written) group
     → GrowsBy old.log group log → IsHomeOf base old → (block : ℕ)
     → now_of base log (with_record log log.places plan old.records) block
     ≡ with_objects (now_of base old.log old.records) plan.written block
-commit_sets base old tx plan group log lawful tidy own sizes blocks contents grown h =
+commit_sets base old tx plan group log lawful well_formed own sizes blocks contents grown h =
     core_now (λ resident. true) base old tx plan group log lawful
-    (is_committed base old tx plan group log tidy own sizes blocks contents grown h) h.window
+    (is_committed base old tx plan group log well_formed own sizes blocks contents grown h) h.window

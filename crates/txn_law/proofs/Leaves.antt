@@ -20,9 +20,9 @@ use Rattle.txn_law.specs.Leaves.{without_fetch, with_content}
 use Rattle.txn_law.specs.Lists.{claimed, IsHeldExactly, IsFetchedExactly}
 use Rattle.objects.specs.Present.{with_block}
 use Rattle.objects.specs.Present.{present_of, content_in, is_pending}
-use Rattle.txn_law.specs.Tidy.{AreTidy}
+use Rattle.txn_law.specs.WellFormed.{IsWellFormed}
 use Rattle.objects.specs.Present.{IsOnce}
-use Rattle.txn_law.specs.Wishes.{IsOpen, IsHeld, IsFetched, IsTaken}
+use Rattle.txn_law.specs.LockAnswers.{IsOpen, IsHeld, IsFetched, IsTaken}
 use Rattle.txn_law.specs.declared.hold.Hold.{Hold}
 use Rattle.objects.specs.declared.present.Present.{Present}
 use Rattle.txn_law.proofs.Residents.{once_refreshed}
@@ -32,29 +32,29 @@ use Rattle.txn_law.proofs.Memory.{filled_memory, filled_fetches, failed_memory, 
 use Rattle.txn_law.proofs.Memory.{refreshed_memory, refreshed_fetches}
 use Rattle.txn_law.proofs.TakenBy.{is_hold_by, taken_with, taken_released}
 
-pub leaves_end : (spare : Present → Bool) (old : CoreState) (tx : ℕ) → AreTidy old
+pub leaves_end : (spare : Present → Bool) (old : CoreState) (tx : ℕ) → IsWellFormed old
     → Leaves (ended spare old tx) (but_by tx (taken_by old)) (is_fetching old) (in_memory old)
-leaves_end spare old tx tidy = record {
+leaves_end spare old tx well_formed = record {
   holds = taken_released old.holds tx;
-  fetches = λ block. swept_fetches spare (released old.holds tx) old.records old.present block tidy.once;
-  comes = λ block. swept_comes spare (released old.holds tx) old.records old.present block tidy.once;
+  fetches = λ block. swept_fetches spare (released old.holds tx) old.records old.present block well_formed.once;
+  comes = λ block. swept_comes spare (released old.holds tx) old.records old.present block well_formed.once;
   stays = swept_stays spare (released old.holds tx) old.records old.present;
 }
 
-pub leaves_installed : (spare : Present → Bool) (old : CoreState) (log : Log) → AreTidy old
+pub leaves_installed : (spare : Present → Bool) (old : CoreState) (log : Log) → IsWellFormed old
     → Leaves (installed spare old log) (taken_by old) (is_fetching old) (in_memory old)
-leaves_installed spare old log tidy = record {
+leaves_installed spare old log well_formed = record {
   holds = λ t a. refl;
   fetches = λ block. swept_fetches spare old.holds (past (installed_place log) old.records) old.present
-      block tidy.once;
-  comes = λ block. swept_comes spare old.holds (past (installed_place log) old.records) old.present block tidy.once;
+      block well_formed.once;
+  comes = λ block. swept_comes spare old.holds (past (installed_place log) old.records) old.present block well_formed.once;
   stays = swept_stays spare old.holds (past (installed_place log) old.records) old.present;
 }
 
-pub leaves_fetched : (spare : Present → Bool) (old : CoreState) (block : BlockNo) (content : Content) → AreTidy old
+pub leaves_fetched : (spare : Present → Bool) (old : CoreState) (block : BlockNo) (content : Content) → IsWellFormed old
     → Leaves (fetched spare old block content) (taken_by old) (without_fetch block (is_fetching old))
     (if is_fetching old block then with_content block content (in_memory old) else in_memory old)
-leaves_fetched spare old block content tidy = record {
+leaves_fetched spare old block content well_formed = record {
   holds = λ t a. refl;
   fetches = λ at. swept_fetches spare old.holds old.records (filled old.present block content) at once
       ∙ filled_fetches old.present block content at;
@@ -66,7 +66,7 @@ leaves_fetched spare old block content tidy = record {
 }
   where
     once : IsOnce (filled old.present block content)
-    once = once_filled block content old.present tidy.once
+    once = once_filled block content old.present well_formed.once
 
     there : (at : BlockNo) (t : Bool) {o : Option Content}
         → (if t then (if nat_eq at.0 block.0 then Some content else in_memory old at) else in_memory old at) ≡ o
@@ -80,19 +80,19 @@ leaves_fetched spare old block content tidy = record {
     from at true e = e
     from at false e = e
 
-pub leaves_failed : (old : CoreState) (block : BlockNo) → AreTidy old
+pub leaves_failed : (old : CoreState) (block : BlockNo) → IsWellFormed old
     → Leaves (fetch_failed old block) (taken_by old) (without_fetch block (is_fetching old)) (in_memory old)
-leaves_failed old block tidy = record {
+leaves_failed old block well_formed = record {
   holds = λ t a. refl;
-  fetches = λ at. failed_fetches old.present block at tidy.once;
-  comes = λ at c e. sym (failed_memory old.present block at tidy.once) ∙ e;
-  stays = λ at c e needed. failed_memory old.present block at tidy.once ∙ e;
+  fetches = λ at. failed_fetches old.present block at well_formed.once;
+  comes = λ at c e. sym (failed_memory old.present block at well_formed.once) ∙ e;
+  stays = λ at c e needed. failed_memory old.present block at well_formed.once ∙ e;
 }
 
-pub leaves_commit : (spare : Present → Bool) (old : CoreState) (tx : ℕ) (plan : Planned) (log : Log) → AreTidy old
+pub leaves_commit : (spare : Present → Bool) (old : CoreState) (tx : ℕ) (plan : Planned) (log : Log) → IsWellFormed old
     → Leaves (committed spare old tx plan log) (but_by tx (taken_by old)) (is_fetching old)
     (λ block. refreshed_content (in_memory old block) (newest log block.0))
-leaves_commit spare old tx plan log tidy = record {
+leaves_commit spare old tx plan log well_formed = record {
   holds = taken_released old.holds tx;
   fetches = λ at. swept_fetches spare (released old.holds tx) (with_record log log.places plan old.records)
       (refreshed log old.present) at once ∙ refreshed_fetches log old.present at;
@@ -104,7 +104,7 @@ leaves_commit spare old tx plan log tidy = record {
 }
   where
     once : IsOnce (refreshed log old.present)
-    once = once_refreshed log old.present tidy.once
+    once = once_refreshed log old.present well_formed.once
 
 -- A hold is of its own transaction and address.
 own_hold : (hold : Hold) → is_hold_of hold.transaction hold.addr hold ≡ true

@@ -1,6 +1,6 @@
 pub mod Again
-pub mod Alone
-pub mod Beside
+pub mod Single
+pub mod Unaffected
 pub mod Claims
 pub mod Commit
 pub mod Commits
@@ -13,7 +13,7 @@ pub mod HeldReads
 pub mod HomeReads
 pub mod Homes
 pub mod Installed
-pub mod Laid
+pub mod OverlaidContent
 pub mod Leaves
 pub mod Memory
 pub mod Once
@@ -24,6 +24,6 @@ pub mod Others
 pub mod Residents
 pub mod Swept
 pub mod TakenBy
-pub mod Tidied
-pub mod TidyCommit
-pub mod Wishes
+pub mod StaysWellFormed
+pub mod WellFormedCommit
+pub mod LockAnswers

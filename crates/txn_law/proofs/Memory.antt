@@ -14,7 +14,7 @@ use Rattle.objects.specs.Present.{filled, without_pending}
 use Rattle.txn_law.specs.Holds.{is_taken}
 use Rattle.objects.specs.Present.{with_block}
 use Rattle.objects.specs.Present.{present_of, content_in, is_pending}
-use Rattle.txn_law.specs.Records.{is_kept, is_left, swept}
+use Rattle.txn_law.specs.Records.{is_read_by_uninstalled, is_left, swept}
 use Rattle.objects.specs.Present.{IsOnce}
 use Rattle.txn_law.specs.Window.{Footprint}
 use Rattle.txn_law.specs.declared.hold.Hold.{Hold}
@@ -22,23 +22,23 @@ use Rattle.objects.specs.declared.present.Present.{Present}
 use Rattle.txn_law.proofs.Claims.{found_by}
 use Rattle.txn_law.proofs.Residents.{present_of-refreshed}
 use Rattle.objects.proofs.Residents.{is_of, same_block, filled_one}
-use Rattle.objects.proofs.Found.{find_none, find_kept, find_push_some, find_push_none}
+use Rattle.objects.proofs.Found.{find_none, find_retained, find_push_some, find_push_none}
 use Rattle.txn_law.proofs.Swept.{or-true}
 
 -- a resident, where it passes the test
-abbrev pub kept_if : (Present → Bool) → Option Present → Option Present
-kept_if q None = None
-kept_if q (Some x) = cond (q x) (Some x) None
+abbrev pub retained_if : (Present → Bool) → Option Present → Option Present
+retained_if q None = None
+retained_if q (Some x) = cond (q x) (Some x) None
 
 pub present_filter : (q : Present → Bool) (xs : List Present) (block : BlockNo) → IsOnce xs
-    → present_of (filter q xs) block ≡ kept_if q (present_of xs block)
+    → present_of (filter q xs) block ≡ retained_if q (present_of xs block)
 present_filter q [] block once = refl
 present_filter q (x ∷ xs) block once =
     go (present_filter q xs block once.1) (nat_eq x.block.0 block.0) refl (q x) refl
   where
-    go : present_of (filter q xs) block ≡ kept_if q (present_of xs block) → (t : Bool)
+    go : present_of (filter q xs) block ≡ retained_if q (present_of xs block) → (t : Bool)
         → nat_eq x.block.0 block.0 ≡ t → (u : Bool) → q x ≡ u
-        → present_of (cond u (x ∷ filter q xs) (filter q xs)) block ≡ kept_if q
+        → present_of (cond u (x ∷ filter q xs) (filter q xs)) block ≡ retained_if q
         (cond t (Some x) (present_of xs block))
     go rest true is true kept = ap (λ b. cond b (Some x) (present_of (filter q xs) block)) is
         ∙ sym (ap (λ b. cond b (Some x) None) kept)
@@ -72,9 +72,9 @@ module _ (spare : Present → Bool) (holds : List Hold) (records : List Footprin
       one x (Some d) e false is = sym (ap is_none e)
       one x None e false is =
           absurd (let yes : stays x ≡ true = ap (λ (o : Option Content). spare x
-          || (is_none o || is_taken holds x.block || is_kept records x.block)) e ∙ or-true (spare x) in cc)
+          || (is_none o || is_taken holds x.block || is_read_by_uninstalled records x.block)) e ∙ or-true (spare x) in cc)
 
-      go : (o : Option Present) → is_pending (kept_if stays o) ≡ is_pending o
+      go : (o : Option Present) → is_pending (retained_if stays o) ≡ is_pending o
       go None = refl
       go (Some x) = one x x.content refl (stays x) refl
 
@@ -87,7 +87,7 @@ module _ (spare : Present → Bool) (holds : List Hold) (records : List Footprin
       one x true e = e
       one x false e = absurd (cc)
 
-      go : (o : Option Present) → content_in (kept_if stays o) ≡ Some c → content_in o ≡ Some c
+      go : (o : Option Present) → content_in (retained_if stays o) ≡ Some c → content_in o ≡ Some c
       go None e = e
       go (Some x) e = one x (stays x) e
 
@@ -99,7 +99,7 @@ or-both false b c e = e
 pub swept_stays : (spare : Present → Bool) (holds : List Hold) (records : List Footprint)
     (present : List Present) (block : BlockNo)
     (c : Content) → content_in (present_of present block) ≡ Some c
-    → (is_taken holds block || is_kept records block) ≡ true
+    → (is_taken holds block || is_read_by_uninstalled records block) ≡ true
     → content_in (present_of (swept spare holds records present) block) ≡ Some c
 swept_stays spare holds records present block c e is = go (present_of present block) refl e
   where
@@ -109,10 +109,10 @@ swept_stays spare holds records present block c e is = go (present_of present bl
     go (Some x) there e =
         let at : x.block ≡ block = found_at present block x there in
         let kept : is_left spare holds records x ≡ true =
-        ap (λ (b : BlockNo). spare x || (is_none x.content || is_taken holds b || is_kept records b)) at
-        ∙ ap (λ t. spare x || t) (or-both (is_none x.content) (is_taken holds block) (is_kept records block) is)
+        ap (λ (b : BlockNo). spare x || (is_none x.content || is_taken holds b || is_read_by_uninstalled records b)) at
+        ∙ ap (λ t. spare x || t) (or-both (is_none x.content) (is_taken holds block) (is_read_by_uninstalled records block) is)
         ∙ or-true (spare x) in
-        ap content_in (find_kept (is_of block) (is_left spare holds records) present x there kept) ∙ e
+        ap content_in (find_retained (is_of block) (is_left spare holds records) present x there kept) ∙ e
 
 -- What is in memory once a block is there too.
 module _ (present : List Present) (block : BlockNo) (content : Option Content) (at : BlockNo) where
@@ -257,7 +257,7 @@ module _ (xs : List Present) (block : BlockNo) (at : BlockNo) (once : IsOnce xs)
           ap (λ (o : Option Content). not (nat_eq x.block.0 block.0) || is_some o) e
           ∙ or-true (not (nat_eq x.block.0 block.0)) in cc)
 
-      go : (o : Option Present) → content_in (kept_if stays_with o) ≡ content_in o
+      go : (o : Option Present) → content_in (retained_if stays_with o) ≡ content_in o
       go None = refl
       go (Some x) = one x x.content refl (stays_with x) refl
 
@@ -277,7 +277,7 @@ module _ (xs : List Present) (block : BlockNo) (at : BlockNo) (once : IsOnce xs)
       one x false (Some d) = refl
 
       go : (o : Option Present) → present_of xs at ≡ o
-          → is_pending (kept_if stays_with o) ≡ (not (nat_eq at.0 block.0) && is_pending o)
+          → is_pending (retained_if stays_with o) ≡ (not (nat_eq at.0 block.0) && is_pending o)
       go None e = and-false (not (nat_eq at.0 block.0))
       go (Some x) e = one x (not (nat_eq x.block.0 block.0)) x.content
           ∙ ap (λ (b : BlockNo). not (nat_eq b.0 block.0) && is_none x.content) (found_at xs at x e)

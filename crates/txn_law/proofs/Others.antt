@@ -1,4 +1,4 @@
--- Lemmas: what a transaction has while others make steps of the core, and who keeps its wishes off.
+-- Lemmas: what a transaction has while others make steps of the core, and who keeps its lock requests off.
 use Rattle.std.proofs.Common.{◌≡◌, ◌∙◌, ◌+◌, refl, sym, ap, ℕ, ◌⊎◌, inl, inr, Bool, true, false}
 use Rattle.std.proofs.Common.{◌||◌}
 use Rattle.std.proofs.Common.{cond, nat_eq, Option, Some, None, List, [], ◌∷◌, All, is_some, arith}
@@ -14,19 +14,19 @@ use Rattle.objects.specs.declared.addr.Addr.{Addr}
 use Rattle.objects.specs.declared.mode.Mode.{Mode}
 use Rattle.objects.specs.declared.mode.Mode.TheVariants as modes
 use Rattle.txn_law.specs.Core.{CoreState, IsOut}
-use Rattle.txn_law.specs.CoreWindow.{KeepsReads}
-use Rattle.txn_law.specs.Holds.{IsHoldOf, KeepsOff, is_hold_of, is_taken}
+use Rattle.txn_law.specs.CoreWindow.{PreservesReads}
+use Rattle.txn_law.specs.Holds.{IsHoldOf, ConflictsWith, is_hold_of, is_taken}
 use Rattle.txn_law.specs.Leaves.{Leaves, in_memory, taken_by}
-use Rattle.txn_law.specs.Others.{IsApartFrom, IsKeptOff, KeepsTaken}
-use Rattle.txn_law.specs.Records.{is_kept}
-use Rattle.txn_law.specs.Tidy.{AreTidy, IsOfOne}
-use Rattle.txn_law.specs.Wishes.{IsBusy}
+use Rattle.txn_law.specs.Others.{IsApartFrom, IsDeferred, PreservesTaken}
+use Rattle.txn_law.specs.Records.{is_read_by_uninstalled}
+use Rattle.txn_law.specs.WellFormed.{IsWellFormed, IsOfOne}
+use Rattle.txn_law.specs.LockAnswers.{IsBusy}
 use Rattle.txn_law.specs.declared.hold.Hold.{Hold}
 use Rattle.txn_law.proofs.Claims.{all_four, found_by}
 use Rattle.objects.proofs.Residents.{same_block}
 use Rattle.txn_law.proofs.Swept.{in_cons, in_first, in_more}
 use Rattle.txn_law.proofs.TakenBy.{is_hold_by}
-use Rattle.txn_law.proofs.Tidied.{taken_one}
+use Rattle.txn_law.proofs.StaysWellFormed.{taken_one}
 
 -- ---- what a transaction has
 
@@ -46,13 +46,13 @@ taken_block core tx addr some =
     (eqb-true hold.addr.block.0 addr.block.0 four.1))) ∙ taken_one core.holds hold there
 
 -- a step that leaves what the transaction has taken, and what was in memory, keeps what it has
-pub keeps_by : (old new : CoreState) (tx : ℕ) (taken : ℕ → Addr → Option Hold) (fetching : BlockNo → Bool)
+pub preserves_by : (old new : CoreState) (tx : ℕ) (taken : ℕ → Addr → Option Hold) (fetching : BlockNo → Bool)
     (there : BlockNo → Option Content) → Leaves new taken fetching there
     → ((addr : Addr) → taken tx addr ≡ taken_by old tx addr)
     → ((block : BlockNo) (content : Content) → in_memory old block ≡ Some content
     → (now : Content) × (there block ≡ Some now))
-    → (IsOut old tx → IsOut new tx) → KeepsReads old new tx → KeepsTaken old new tx
-keeps_by old new tx taken fetching there leaves same still out reads = record {
+    → (IsOut old tx → IsOut new tx) → PreservesReads old new tx → PreservesTaken old new tx
+preserves_by old new tx taken fetching there leaves same still out reads = record {
   out = out;
   taken = λ addr. leaves.holds tx addr ∙ same addr;
   reads = reads;
@@ -60,12 +60,12 @@ keeps_by old new tx taken fetching there leaves same still out reads = record {
       let (now, is) = still addr.block content here in (
         now,
         leaves.stays addr.block now is
-            (ap (λ (b : Bool). b || is_kept new.records addr.block)
+            (ap (λ (b : Bool). b || is_read_by_uninstalled new.records addr.block)
             (taken_block new tx addr (ap is_some (leaves.holds tx addr ∙ same addr) ∙ some))),
       );
 }
 
--- ---- who keeps a wish off
+-- ---- who keeps a lock request off
 
 -- where one passes a test, one is found
 pub found_some : {X : Type 0} (test : X → Bool) (xs : List X) (x : X) → Contains xs x → test x ≡ true
@@ -79,10 +79,10 @@ found_some test (y ∷ ys) x there passes = go (found_some test ys x) (test y) r
     go rest false is (inl same) = absurd (true≢false (sym passes ∙ ap test (sym same) ∙ is))
     go rest false is (inr later) = rest later passes
 
-module _ (core : CoreState) (tx : ℕ) (addr : Addr) (mode : Mode) (tidy : AreTidy core)
+module _ (core : CoreState) (tx : ℕ) (addr : Addr) (mode : Mode) (well_formed : IsWellFormed core)
     (apart : IsApartFrom core tx addr) where
   abbrev LetsPass : Hold → Type 0
-  LetsPass hold = Overlap hold.addr addr → KeepsOff tx mode hold → IsHoldOf tx addr hold
+  LetsPass hold = Overlap hold.addr addr → ConflictsWith tx mode hold → IsHoldOf tx addr hold
 
   overlaps : (hold : Hold) → Overlap hold.addr addr ⊎ (Overlap hold.addr addr → ⊥)
   overlaps hold = elim (cases_eq hold.addr.block.0 addr.block.0) [
@@ -111,7 +111,7 @@ module _ (core : CoreState) (tx : ℕ) (addr : Addr) (mode : Mode) (tidy : AreTi
       (is_hold_by tx hold.addr hold mine refl refl refl) in
       (mine, apart hold.addr found.0 found.1 over)
 
-  one_hold : (hold : Hold) → Contains core.holds hold → LetsPass hold ⊎ IsKeptOff core tx addr mode
+  one_hold : (hold : Hold) → Contains core.holds hold → LetsPass hold ⊎ IsDeferred core tx addr mode
   one_hold hold there = elim (cases_eq hold.transaction tx) [
     | inl mine ↦ inl (own hold there mine)
     | inr differs ↦ elim (overlaps hold) [
@@ -122,7 +122,7 @@ module _ (core : CoreState) (tx : ℕ) (addr : Addr) (mode : Mode) (tidy : AreTi
           hold = hold;
           there = there;
           differs = differs;
-          out = (All-contains (IsOfOne core) core.holds hold tidy.owned there).0;
+          out = (All-contains (IsOfOne core) core.holds hold well_formed.owned there).0;
           overlap = over;
           excludes = both;
         })
@@ -131,7 +131,7 @@ module _ (core : CoreState) (tx : ℕ) (addr : Addr) (mode : Mode) (tidy : AreTi
   ]
 
   all_holds : (holds : List Hold) → ((hold : Hold) → Contains holds hold → Contains core.holds hold)
-      → All LetsPass holds ⊎ IsKeptOff core tx addr mode
+      → All LetsPass holds ⊎ IsDeferred core tx addr mode
   all_holds [] within = inl (All-nil LetsPass)
   all_holds (h ∷ hs) within = elim (one_hold h (within h (in_first h h hs refl))) [
     | inr found ↦ inr found
@@ -141,8 +141,8 @@ module _ (core : CoreState) (tx : ℕ) (addr : Addr) (mode : Mode) (tidy : AreTi
     ]
   ]
 
-  pub kept_off_by : IsBusy core tx addr mode → IsKeptOff core tx addr mode
-  kept_off_by busy = elim (all_holds core.holds (λ hold there. there)) [
+  pub deferred_by : IsBusy core tx addr mode → IsDeferred core tx addr mode
+  deferred_by busy = elim (all_holds core.holds (λ hold there. there)) [
     | inr found ↦ found
     | inl free ↦ absurd (busy.1 (record { others = free }))
   ]

@@ -14,7 +14,7 @@ use Rattle.circ.specs.Log.Log.{Log, IsLawful, installed_place}
 use Rattle.txn_law.specs.Core.{CoreState, past, installed}
 use Rattle.txn_law.specs.Holds.{is_taken}
 use Rattle.objects.specs.Object.{ObjectBytes}
-use Rattle.txn_law.specs.Records.{lies_in, is_kept, is_left, swept}
+use Rattle.txn_law.specs.Records.{lies_in, is_read_by_uninstalled, is_left, swept}
 use Rattle.txn_law.specs.Window.{Footprint}
 use Rattle.txn_law.specs.declared.hold.Hold.{Hold}
 use Rattle.objects.specs.declared.present.Present.{Present}
@@ -29,25 +29,25 @@ or-true false = refl
 
 -- what holds of all blocks in memory holds of those that stay
 module _ (P : ℕ × Content → Type 0) (test : Present → Bool) where
-  pub all_beside : (block : BlockNo) (content : Option Content) (xs ys : List (ℕ × Content))
+  pub all_with_resident : (block : BlockNo) (content : Option Content) (xs ys : List (ℕ × Content))
       → (All P xs → All P ys) → All P (with_resident block content xs) → All P (with_resident block content ys)
-  all_beside block (Some content) xs ys rest h =
+  all_with_resident block (Some content) xs ys rest h =
       All-cons P (block.0, content) ys (All-head P (block.0, content) xs h)
       (rest (All-tail P (block.0, content) xs h))
-  all_beside block None xs ys rest h = rest h
+  all_with_resident block None xs ys rest h = rest h
 
   all_behind : (block : BlockNo) (content : Option Content) (xs : List (ℕ × Content))
       → All P (with_resident block content xs) → All P xs
   all_behind block (Some content) xs h = All-tail P (block.0, content) xs h
   all_behind block None xs h = h
 
-  all_kept : (present : List Present) → All P (held_of present) → All P (held_of (filter test present))
-  all_kept [] h = h
-  all_kept (resident ∷ later) h = go (all_kept later) (test resident)
+  all_preserved : (present : List Present) → All P (held_of present) → All P (held_of (filter test present))
+  all_preserved [] h = h
+  all_preserved (resident ∷ later) h = go (all_preserved later) (test resident)
     where
       go : (All P (held_of later) → All P (held_of (filter test later))) → (t : Bool)
           → All P (held_of (cond t (resident ∷ filter test later) (filter test later)))
-      go rest true = all_beside resident.block resident.content (held_of later) (held_of (filter test later)) rest h
+      go rest true = all_with_resident resident.block resident.content (held_of later) (held_of (filter test later)) rest h
       go rest false = rest (all_behind resident.block resident.content (held_of later) h)
 
 pub in_cons : {X : Type 0} (x y : X) (xs : List X) → Contains (x ∷ xs) y → (x ≡ y) ⊎ Contains xs y
@@ -62,11 +62,11 @@ in_first x y xs e = (zero, omega arith, e)
 
 -- a block that passes the test stays
 module _ (block : ℕ) (content : Content) (test : Present → Bool) where
-  pub in_beside : (at : BlockNo) (there : Option Content) (xs ys : List (ℕ × Content))
+  pub in_with_resident : (at : BlockNo) (there : Option Content) (xs ys : List (ℕ × Content))
       → (Contains xs (block, content) → Contains ys (block, content))
       → Contains (with_resident at there xs) (block, content)
       → Contains (with_resident at there ys) (block, content)
-  in_beside at (Some there) xs ys rest h =
+  in_with_resident at (Some there) xs ys rest h =
       elim (in_cons (at.0, there) (block, content) xs h) as (λ _. Contains ((at.0, there) ∷ ys) (
         block,
         content,
@@ -74,7 +74,7 @@ module _ (block : ℕ) (content : Content) (test : Present → Bool) where
         | inl same ↦ in_first (at.0, there) (block, content) ys same
         | inr later ↦ in_more (at.0, there) (block, content) ys (rest later)
       ]
-  in_beside at None xs ys rest h = rest h
+  in_with_resident at None xs ys rest h = rest h
 
   in_behind : (at : BlockNo) (there : Option Content) (xs : List (ℕ × Content)) → (at.0 ≡ block → ⊥)
       → Contains (with_resident at there xs) (block, content) → Contains xs (block, content)
@@ -85,33 +85,33 @@ module _ (block : ℕ) (content : Content) (test : Present → Bool) where
       ]
   in_behind at None xs differs h = h
 
-  in_kept : (present : List Present) → ((resident : Present) → resident.block.0 ≡ block → test resident ≡ true)
+  in_retained : (present : List Present) → ((resident : Present) → resident.block.0 ≡ block → test resident ≡ true)
       → Contains (held_of present) (block, content)
       → Contains (held_of (filter test present)) (block, content)
-  in_kept [] passes h = h
-  in_kept (resident ∷ later) passes h = go (in_kept later passes) (test resident) refl
+  in_retained [] passes h = h
+  in_retained (resident ∷ later) passes h = go (in_retained later passes) (test resident) refl
     where
       go : (Contains (held_of later) (block, content)
           → Contains (held_of (filter test later)) (block, content)) → (t : Bool) → test resident ≡ t
           → Contains (held_of (cond t (resident ∷ filter test later) (filter test later))) (block, content)
       go rest true e =
-          in_beside resident.block resident.content (held_of later) (held_of (filter test later)) rest h
+          in_with_resident resident.block resident.content (held_of later) (held_of (filter test later)) rest h
       go rest false e =
           rest (in_behind resident.block resident.content (held_of later)
           (λ same. absurd (let no : true ≡ false = sym (passes resident same) ∙ e in cc)) h)
 
 module _ (spare : Present → Bool) (holds : List Hold) (kept : List Footprint) (present : List Present) where
-  pinned_one : (object : ObjectBytes) → is_kept kept object.addr.block ≡ true
+  pinned_one : (object : ObjectBytes) → is_read_by_uninstalled kept object.addr.block ≡ true
       → IsPinned (held_of present) object → IsPinned (held_of (swept spare holds kept present)) object
   pinned_one object read (content, there) = (
     content,
-    in_kept object.addr.block.0 content (is_left spare holds kept) present passes there,
+    in_retained object.addr.block.0 content (is_left spare holds kept) present passes there,
   )
     where
       passes : (resident : Present) → resident.block.0 ≡ object.addr.block.0
           → is_left spare holds kept resident ≡ true
       passes resident same =
-          let here : is_kept kept resident.block ≡ true =
+          let here : is_read_by_uninstalled kept resident.block ≡ true =
           ap (λ (n : ℕ). list_any
           (λ (commit : Footprint). list_any (λ (o : ObjectBytes). nat_eq o.addr.block.0 n) commit.read)
           kept) same ∙ read in
@@ -120,7 +120,7 @@ module _ (spare : Present → Bool) (holds : List Hold) (kept : List Footprint) 
           ∙ or-true (spare resident)
 
   pinned_objects : (objects : List ObjectBytes)
-      → ((block : BlockNo) → lies_in objects block ≡ true → is_kept kept block ≡ true)
+      → ((block : BlockNo) → lies_in objects block ≡ true → is_read_by_uninstalled kept block ≡ true)
       → All (IsPinned (held_of present)) objects
       → All (IsPinned (held_of (swept spare holds kept present))) objects
   pinned_objects [] within h = All-nil (IsPinned (held_of (swept spare holds kept present)))
@@ -132,12 +132,12 @@ module _ (spare : Present → Bool) (holds : List Hold) (kept : List Footprint) 
       ∙ or-true (nat_eq o.addr.block.0 block.0))) (All-tail (IsPinned (held_of present)) o os h))
 
   pinned_commits : (commits : List Footprint)
-      → ((block : BlockNo) → is_kept commits block ≡ true → is_kept kept block ≡ true)
+      → ((block : BlockNo) → is_read_by_uninstalled commits block ≡ true → is_read_by_uninstalled kept block ≡ true)
       → All (ArePinned (held_of present)) commits
       → All (ArePinned (held_of (swept spare holds kept present))) commits
   pinned_commits [] within h = All-nil (ArePinned (held_of (swept spare holds kept present)))
   pinned_commits (c ∷ cs) within h = All-cons (ArePinned (held_of (swept spare holds kept present))) c cs
-      (pinned_objects c.read (λ block e. within block (ap (λ t. t || is_kept cs block) e))
+      (pinned_objects c.read (λ block e. within block (ap (λ t. t || is_read_by_uninstalled cs block) e))
       (All-head (ArePinned (held_of present)) c cs h))
       (pinned_commits cs (λ block e. within block (ap (λ t. lies_in c.read block || t) e
       ∙ or-true (lies_in c.read block))) (All-tail (ArePinned (held_of present)) c cs h))
@@ -147,7 +147,7 @@ pub window_swept : (spare : Present → Bool) (base : Image) (log : Log) (commit
     → IsWindowOver base log commits (held_of (swept spare holds commits present))
 window_swept spare base log commits holds present h =
     other_memory base log commits (held_of present) (held_of (swept spare holds commits present))
-    (all_kept (IsCurrent (now_of base log commits)) (is_left spare holds commits) present h.memory)
+    (all_preserved (IsCurrent (now_of base log commits)) (is_left spare holds commits) present h.memory)
     (pinned_commits spare holds commits present commits (λ block e. e) h.pinned) h
 
 pub core_installed : (spare : Present → Bool) (base : Image) (core : CoreState) (ok : Bool) → IsLawful core.log

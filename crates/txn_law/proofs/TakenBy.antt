@@ -7,7 +7,7 @@ use Rattle.objects.specs.declared.addr.Addr.{Addr}
 use Rattle.txn_law.specs.Holds.{is_hold_of, hold_of, without_hold, joined, with_hold, released}
 use Rattle.txn_law.specs.declared.hold.Hold.{Hold}
 use Rattle.txn_law.proofs.Claims.{all_four}
-use Rattle.objects.proofs.Found.{find_push_none, find_push_other, find_none_kept, find_through}
+use Rattle.objects.proofs.Found.{find_push_none, find_push_other, find_none_retained, find_through}
 
 find_same : {X : Type 0} (p q : X → Bool) (xs : List X) → ((x : X) → p x ≡ q x) → find p xs ≡ find q xs
 find_same p q [] same = refl
@@ -84,7 +84,7 @@ module _ (holds : List Hold) (hold : Hold) (t : ℕ) (a : Addr) where
       go true mine =
           find_same (is_hold_of t a) own (with_hold holds hold) (same_test mine)
           ∙ find_push_none own (without_hold holds hold.transaction hold.addr) (made ∷ [])
-          (find_none_kept own (λ x. not (own x)) holds (λ x is. ap not is))
+          (find_none_retained own (λ x. not (own x)) holds (λ x is. ap not is))
           ∙ ap (λ (b : Bool). cond b (Some made) None)
           (made_at hold.transaction hold.addr ∙ is_hold_by hold.transaction hold.addr hold refl refl refl refl)
           ∙ ap (λ (o : Option Hold). Some (joined o hold))
@@ -119,7 +119,7 @@ taken_released holds tx t a = go (nat_eq t tx) refl
     go : (u : Bool) → nat_eq t tx ≡ u
         → hold_of (released holds tx) t a ≡ (if u then None else hold_of holds t a)
     go true same =
-        find_none_kept (is_hold_of t a) (λ hold. not (nat_eq hold.transaction tx)) holds
+        find_none_retained (is_hold_of t a) (λ hold. not (nat_eq hold.transaction tx)) holds
         (λ x mine. ap not (eq-eqb x.transaction tx (by x mine ∙ eqb-true t tx same)))
     go false other =
         find_through (is_hold_of t a) (λ hold. not (nat_eq hold.transaction tx)) holds

@@ -10,7 +10,7 @@ use Rattle.circ.specs.Log.Grows.{GrowsBy}
 use Rattle.circ.specs.Log.Log.{Log, IsHomeOn, newest, installed_place, blocks_of as group_blocks}
 use Rattle.circ.specs.Log.Overlay.{content_or}
 use Rattle.txn_law.specs.Core.{CoreState, IsOut, ended}
-use Rattle.txn_law.specs.Group.{blocks_of, IsLaid}
+use Rattle.txn_law.specs.Group.{blocks_of, IsOverlaid}
 use Rattle.txn_law.specs.Holds.{released, hold_of, is_read, is_written}
 use Rattle.objects.specs.Object.{ObjectBytes}
 use Rattle.objects.specs.Present.{present_of, content_in, is_pending}
@@ -90,7 +90,7 @@ pub record IsCommitted (base : Image) (old : CoreState) (tx : ℕ) (plan : Plann
     (group : List (BlockNo × Content)) (log : Log) : Type 0 where
   pub grown : GrowsBy old.log group log
   pub blocks : group_blocks group ≡ blocks_of plan.written
-  pub contents : All (IsLaid old.present old.log plan.written) group
+  pub contents : All (IsOverlaid old.present old.log plan.written) group
   pub read : All (IsReadBy old tx) plan.read
   pub claimed : (block : BlockNo) → lies_in plan.written block ≡ true
       → content_in (present_of old.present block) ≡ None → newest old.log block.0 ≡ None

@@ -44,9 +44,9 @@ SetsOnly old written new = (base : Image) → IsHomeOf base old → (block : ℕ
     ≡ with_objects (now_of base old.log old.records) written block
 
 -- whatever is at home, a step leads from a window over it to one over the same
-abbrev pub KeepsHome : CoreState → CoreState → Type 0
-KeepsHome old new = (base : Image) → IsHomeOf base old → IsHomeOf base new
+abbrev pub PreservesHome : CoreState → CoreState → Type 0
+PreservesHome old new = (base : Image) → IsHomeOf base old → IsHomeOf base new
 
 -- what a transaction holds for reading stays, with its bytes
-abbrev pub KeepsReads : CoreState → CoreState → ℕ → Type 0
-KeepsReads old new tx = (object : ObjectBytes) → IsReadBy old tx object → IsReadBy new tx object
+abbrev pub PreservesReads : CoreState → CoreState → ℕ → Type 0
+PreservesReads old new tx = (object : ObjectBytes) → IsReadBy old tx object → IsReadBy new tx object

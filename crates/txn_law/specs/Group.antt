@@ -24,10 +24,10 @@ blocks_of objects = blocks_after [] objects
 
 -- a block's content with those of the objects laid over it that lie in the block, later ones over earlier
 -- ones
-abbrev pub laid : Content → List ObjectBytes → BlockNo → Content
-laid content [] block = content
-laid content (object ∷ objects) block =
-    laid (if nat_eq object.addr.block.0 block.0 then spliced content object.addr.offset object.bytes
+abbrev pub overlaid_content : Content → List ObjectBytes → BlockNo → Content
+overlaid_content content [] block = content
+overlaid_content content (object ∷ objects) block =
+    overlaid_content (if nat_eq object.addr.block.0 block.0 then spliced content object.addr.offset object.bytes
     else content) objects block
 
 -- what objects are laid over: what is in memory, else what the log has, else zeros
@@ -37,7 +37,7 @@ base_in None (Some content) = content
 base_in None None = replicate BLOCK_BYTES 0
 
 -- the block's content with the objects laid over it
-abbrev pub IsLaid : List Present → Log → List ObjectBytes → BlockNo × Content → Type 0
-IsLaid present log objects change =
-    change.1 ≡ laid (base_in (content_in (present_of present change.0)) (newest log change.0.0)) objects
+abbrev pub IsOverlaid : List Present → Log → List ObjectBytes → BlockNo × Content → Type 0
+IsOverlaid present log objects change =
+    change.1 ≡ overlaid_content (base_in (content_in (present_of present change.0)) (newest log change.0.0)) objects
     change.0

@@ -4,7 +4,7 @@ use Rattle.std.specs.Prelude.{[], ◌∷◌, ◌++◌}
 use Rattle.std.specs.Prelude.{All, nat_eq}
 use Rattle.std.specs.List.{list_any, find, filter}
 use Rattle.objects.specs.Addr.{Overlap}
-use Rattle.objects.specs.Mode.{Excludes, is_exclusive, raised}
+use Rattle.objects.specs.Mode.{Excludes, is_exclusive, upgraded}
 use Rattle.objects.specs.declared.addr.Addr.{Addr}
 use Rattle.objects.specs.declared.mode.Mode.{Mode}
 use Rattle.objects.specs.declared.mode.Mode.TheVariants as modes
@@ -15,14 +15,14 @@ use Rattle.txn_law.specs.declared.hold.Hold.{Hold}
 abbrev pub IsHoldOf : ℕ → Addr → Hold → Type 0
 IsHoldOf tx addr hold = (hold.transaction ≡ tx) × (hold.addr ≡ addr)
 
--- what is taken keeps off such a wish: it is this transaction's own, or in a mode that keeps the wished one off
-abbrev pub KeepsOff : ℕ → Mode → Hold → Type 0
-KeepsOff tx mode hold = (hold.transaction ≡ tx) ⊎ Excludes hold.mode mode
+-- what is taken keeps off such a lock request: it is this transaction's own, or in a mode that keeps the one that is asked for off
+abbrev pub ConflictsWith : ℕ → Mode → Hold → Type 0
+ConflictsWith tx mode hold = (hold.transaction ≡ tx) ⊎ Excludes hold.mode mode
 
--- of what keeps the wish off nothing has a byte of the address, but what this transaction has taken by this
+-- of what keeps the request off nothing has a byte of the address, but what this transaction has taken by this
 -- address
 pub record IsFree (holds : List Hold) (tx : ℕ) (addr : Addr) (mode : Mode) : Type 0 where
-  pub others : All (λ hold. Overlap hold.addr addr → KeepsOff tx mode hold → IsHoldOf tx addr hold) holds
+  pub others : All (λ hold. Overlap hold.addr addr → ConflictsWith tx mode hold → IsHoldOf tx addr hold) holds
 
 -- anyone has taken a part of the block
 abbrev pub is_taken : List Hold → BlockNo → Bool
@@ -42,7 +42,7 @@ hold_of holds tx addr = find (is_hold_of tx addr) holds
 abbrev pub without_hold : List Hold → ℕ → Addr → List Hold
 without_hold holds tx addr = filter (λ hold. not (is_hold_of tx addr hold)) holds
 
--- what a wish takes: to read an object, to have its block fetched, or to write a whole block
+-- what a lock request takes: to read an object, to have its block fetched, or to write a whole block
 abbrev pub for_reading : ℕ → Addr → Mode → Hold
 for_reading tx addr mode =
     record { transaction = tx; addr = addr; mode = mode; is_read = true; is_claimed = false }
@@ -59,7 +59,7 @@ for_writing tx addr =
 abbrev pub joined : Option Hold → Hold → Hold
 joined None hold = hold
 joined (Some had) hold = record hold {
-  mode = raised had.mode hold.mode;
+  mode = upgraded had.mode hold.mode;
   is_read = had.is_read || hold.is_read;
   is_claimed = had.is_claimed || hold.is_claimed;
 }

@@ -14,8 +14,8 @@ IsStuck log (was_made io (Err _)) = Unit {0}
 
 -- A block at home of which a write failed is in the log, and stays there.
 pub record IsReadable (d : Device) (log : Log) (installing : Pending) : Type 0 where
-  pub logged : (block : ℕ) → IsOutside log.blocks block → d.spoiled block ≡ true → newest log block ≡ None → ⊥
-  pub stuck : (block : ℕ) → IsOutside log.blocks block → d.spoiled block ≡ true → IsStuck log installing
+  pub logged : (block : ℕ) → IsOutside log.blocks block → d.uncertain block ≡ true → newest log block ≡ None → ⊥
+  pub stuck : (block : ℕ) → IsOutside log.blocks block → d.uncertain block ≡ true → IsStuck log installing
 
 -- each block of the device has a content
 abbrev pub HasContents : Device → Type 0

@@ -8,7 +8,7 @@ use Rattle.objects.specs.declared.addr.Addr.{Addr}
 use Rattle.txn_law.specs.Core.{CoreState}
 use Rattle.txn_law.specs.Holds.{hold_of, is_hold_of, is_taken, joined}
 use Rattle.objects.specs.Present.{present_of, content_in, is_pending}
-use Rattle.txn_law.specs.Records.{is_kept}
+use Rattle.txn_law.specs.Records.{is_read_by_uninstalled}
 use Rattle.txn_law.specs.declared.hold.Hold.{Hold}
 
 -- what a transaction has taken of an address
@@ -25,7 +25,7 @@ in_memory core block = content_in (present_of core.present block)
 
 -- somebody has taken a part of the block, or a commit that isn't installed read one
 abbrev pub IsNeeded : CoreState → BlockNo → Type 0
-IsNeeded core block = (is_taken core.holds block || is_kept core.records block) ≡ true
+IsNeeded core block = (is_taken core.holds block || is_read_by_uninstalled core.records block) ≡ true
 
 -- Just this is taken, and just these fetches are pending. In memory is no more than this, and what is needed of
 -- it.

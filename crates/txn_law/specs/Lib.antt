@@ -6,13 +6,13 @@ pub mod Core
 pub mod CoreWindow
 pub mod Leaves
 pub mod Fetch
-pub mod Wishes
+pub mod LockAnswers
 pub mod Lists
 pub mod Fetched
 pub mod Steps
 pub mod Commit
 pub mod HomeRead
-pub mod Tidy
+pub mod WellFormed
 pub mod CoreLaw
 pub mod Others
 -- What the definitions here stand on, for the crates above.

@@ -1,4 +1,4 @@
--- Exactly what a wish that is met makes of the lists of a core.
+-- Exactly what a lock request that is met makes of the lists of a core.
 use Rattle.std.specs.Prelude.{◌≡◌, ℕ, Option, Some, None, List}
 use Rattle.disk.specs.Device.{Content}
 use Rattle.objects.specs.declared.addr.Addr.{Addr}
@@ -9,7 +9,7 @@ use Rattle.txn_law.specs.Fetch.{Fetch}
 use Rattle.txn_law.specs.Holds.{for_reading, for_fetching, for_writing, with_hold}
 use Rattle.objects.specs.Present.{present_of, with_block}
 use Rattle.txn_law.specs.Window.{part}
-use Rattle.txn_law.specs.Wishes.{current}
+use Rattle.txn_law.specs.LockAnswers.{current}
 use Rattle.txn_law.specs.declared.hold.Hold.{Hold}
 
 -- the core once an address is taken, and its block is in memory or is being fetched

@@ -13,13 +13,13 @@ abbrev pub lies_in : List ObjectBytes → BlockNo → Bool
 lies_in objects block = list_any (λ object. nat_eq object.addr.block.0 block.0) objects
 
 -- whether a kept record read a part of the block
-abbrev pub is_kept : List Footprint → BlockNo → Bool
-is_kept records block = list_any (λ kept. lies_in kept.read block) records
+abbrev pub is_read_by_uninstalled : List Footprint → BlockNo → Bool
+is_read_by_uninstalled records block = list_any (λ kept. lies_in kept.read block) records
 
 -- whether its fetch is pending, somebody has taken a part of the block, or a kept record read one
 abbrev pub is_needed : List Hold → List Footprint → Present → Bool
 is_needed holds records resident =
-    is_none resident.content || is_taken holds resident.block || is_kept records resident.block
+    is_none resident.content || is_taken holds resident.block || is_read_by_uninstalled records resident.block
 
 -- whether it stays in memory: it is spared, or needed
 abbrev pub is_left : (Present → Bool) → List Hold → List Footprint → Present → Bool

@@ -12,7 +12,7 @@ pub use Rattle.circ.specs.Log.Grows.{StandsStill}
 use Rattle.circ.specs.Log.Log.{blocks_of as group_blocks}
 use Rattle.circ.specs.Log.Overlay.{content_or}
 use Rattle.circ.specs.Log.Effects.{newest_in}
-use Rattle.txn_law.specs.Group.{blocks_of, base_in, IsLaid}
+use Rattle.txn_law.specs.Group.{blocks_of, base_in, IsOverlaid}
 use Rattle.objects.specs.Object.{ObjectBytes}
 use Rattle.objects.specs.Present.{present_of, content_in}
 use Rattle.txn_law.specs.Records.{lies_in}
@@ -26,7 +26,7 @@ IsCovered group object = (content : Content) × (newest_in group object.addr.blo
 -- A commit read what these blocks have, and its group lays what it wrote over them.
 pub record IsBrought (now : Image) (commit : Footprint) (group : List (BlockNo × Content)) : Type 0 where
   pub read : AllByRecursion (IsAsRead now) commit.read
-  pub laid : (block : ℕ)
+  pub overlaid_content : (block : ℕ)
       → content_or (newest_in group block) (now block) ≡ with_objects now commit.written block
   pub covered : All (IsCovered group) commit.written
 
@@ -53,6 +53,6 @@ pub record IsMade (present : List Present) (log : Log) (now : Image) (commit : F
     (group : List (BlockNo × Content)) : Type 0 where
   pub read : AllByRecursion (IsAsRead now) commit.read
   pub blocks : group_blocks group ≡ blocks_of commit.written
-  pub contents : All (IsLaid present log commit.written) group
+  pub contents : All (IsOverlaid present log commit.written) group
   pub known : (block : BlockNo) → lies_in commit.written block ≡ true
       → IsKnown present log now commit.written block

@@ -10,7 +10,7 @@ ghost use Rattle.circ.specs.Log.Effects.{HasAppended};
 ghost use Rattle.circ.specs.Log.Logger.{with_log_out, with_log_back};
 ghost use Rattle.circ.specs.Log.Installer.{with_inst_out, with_inst_back};
 ghost use Rattle.circ.specs.Log.Law.{IsOutside};
-ghost use Rattle.circ.specs.Log.Calls.{Pending, idle, out, was_made, AgreesBeside};
+ghost use Rattle.circ.specs.Log.Calls.{Pending, idle, out, was_made, AgreesWithPending};
 ghost use Rattle.txn_law.specs.Window.{Footprint};
 ghost use Rattle.txn_law.specs.HomeRead.{IsReadable, HasContents};
 ghost use Rattle.txn_law.specs.Window.{IsWindowOver, now_of};
@@ -18,16 +18,16 @@ ghost use Rattle.txn_law.specs.Window.{IsWindowOver, now_of};
 /// A read of a block that the log doesn't have brings what is at home, whatever has failed.
 pub fn a_read_brings_what_is_home()
     ensures { (d : Device) (base : Image) (log : Log) (logging installing : Pending) (block : ℕ)
-        → AgreesBeside d base log logging installing
+        → AgreesWithPending d base log logging installing
         → IsReadable d log installing → HasContents d → IsOutside log.blocks block → newest log block ≡ None
-        → (d.spoiled block ≡ false) × (newest_content (current d block) ≡ base block) }
+        → (d.uncertain block ≡ false) × (newest_content (current d block) ≡ base block) }
 {}
 
 /// And so what is current, where there is a window over what is at home.
 pub fn a_read_brings_what_is_current()
     ensures { (d : Device) (base : Image) (log : Log) (logging installing : Pending)
         (commits : List Footprint) (held : List (ℕ × Content)) (block : ℕ)
-        → AgreesBeside d base log logging installing
+        → AgreesWithPending d base log logging installing
         → IsReadable d log installing → HasContents d → IsWindowOver base log commits held
         → IsOutside log.blocks block → newest log block ≡ None
         → newest_content (current d block) ≡ now_of base log commits block }
@@ -40,7 +40,7 @@ pub fn steps_keep_what_may_be_read()
         → HasAppended old group new → IsReadable d old installing → IsReadable d new installing }
     ensures read { (old new : Device) (log : Log) (installing : Pending) → HasRead old new
         → IsReadable old log installing → IsReadable new log installing }
-    ensures beside { (old new : Device) (log : Log) (block : ℕ) (content : Content) (installing : Pending)
+    ensures unaffected_by_write { (old new : Device) (log : Log) (block : ℕ) (content : Content) (installing : Pending)
         → HasWritten old block content (Ok tt) new
         → IsReadable old log installing → IsReadable new log installing }
     ensures contents { (old new : Device) (io : Io) (answer : Result Unit Failed) → HasMade old io answer new
@@ -48,24 +48,24 @@ pub fn steps_keep_what_may_be_read()
 {}
 
 /// So do the logger's calls.
-pub fn the_logger_keeps_what_may_be_read()
+pub fn the_logger_preserves_what_may_be_read()
     ensures goes_out { (d : Device) (log : Log) (installing : Pending) → IsReadable d log installing
         → IsReadable d (with_log_out log) installing }
     ensures is_made { (old new : Device) (base : Image) (log : Log) (io : Io) (answer : Result Unit Failed)
         (installing : Pending) → IsLawful log → HasMade old io answer new
-        → AgreesBeside old base log (out io) installing → IsReadable old log installing
+        → AgreesWithPending old base log (out io) installing → IsReadable old log installing
         → IsReadable new log installing }
     ensures comes_back { (d : Device) (log : Log) (ok : Bool) (installing : Pending)
         → IsReadable d log installing → IsReadable d (with_log_back log ok) installing }
 {}
 
 /// And the installer's: it hands out a call only while the log isn't broken.
-pub fn the_installer_keeps_what_may_be_read()
+pub fn the_installer_preserves_what_may_be_read()
     ensures goes_out { (d : Device) (log : Log) (io : Io) → log.broken ≡ false → IsReadable d log idle
         → IsReadable d (with_inst_out log) (out io) }
     ensures is_made { (old new : Device) (base : Image) (log : Log) (io : Io) (answer : Result Unit Failed)
         (logging : Pending) → IsLawful log → HasMade old io answer new
-        → AgreesBeside old base log logging (out io) → IsReadable old log (out io)
+        → AgreesWithPending old base log logging (out io) → IsReadable old log (out io)
         → IsReadable new log (was_made io answer) }
     ensures comes_back { (d : Device) (log : Log) (io : Io) (answer : Result Unit Failed)
         → IsReadable d log (was_made io answer)

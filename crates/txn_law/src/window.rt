@@ -24,7 +24,7 @@ pub fn a_window_has_each_commit_that_is_not_installed()
 {}
 
 /// A block that a kept commit read and that isn't in memory is in no legal window.
-pub fn a_window_keeps_what_was_read()
+pub fn a_window_preserves_what_was_read()
     ensures { (log : Log) (commits : List Footprint) (commit : Footprint) (object : ObjectBytes)
         → Contains commits commit → Contains commit.read object → IsLegalWindow log commits [] → ⊥ }
 {}

@@ -1,2 +1,2 @@
 pub mod IndexLemmas
-pub mod Laying
+pub mod AbsorbingChanges

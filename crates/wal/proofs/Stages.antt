@@ -8,7 +8,7 @@ use Rattle.circ.specs.Log.Log.{IsLawful, Log}
 use Rattle.circ.specs.declared.log.calls.IoCall.TheVariants.{Barrier, Write}
 use Rattle.circ.proofs.LogLemmas.Lawful.{lawful_group_settled}
 use Rattle.wal.specs.Batch.{IsStageOf, batch_of, step_at}
-use Rattle.wal.specs.BySide.{IsBody, IsTelling, ahead_of, step_of, taken_by}
+use Rattle.wal.specs.ByRole.{IsBody, IsControlWrite, preceding_of, step_of, taken_by}
 use Rattle.wal.specs.Sides.{IsNextCall}
 use Rattle.wal.specs.View.{IsSound, log_of}
 use Rattle.wal.specs.declared.memory.Wal.TheInside.{Inside}
@@ -17,22 +17,22 @@ use Rattle.wal.specs.declared.memory.batch.Stage.{Stage}
 
 -- ---- what the fields of a side tell
 
-pub taken_is : (side : Side) (w : Inside) (log : Log) (batch : Batch) → log_of w ≡ log
-    → batch ≡ batch_of side w.batches → taken_by side log ≡ batch.taken
+pub taken_is : (role : Side) (w : Inside) (log : Log) (batch : Batch) → log_of w ≡ log
+    → batch ≡ batch_of role w.batches → taken_by role log ≡ batch.taken
 taken_is LogSide w log batch same is =
     ap (λ (l : Log). l.taken) (sym same) ∙ ap (λ (b : Batch). b.taken) (sym is)
 taken_is Home w log batch same is =
     ap (λ (l : Log). l.installing) (sym same) ∙ ap (λ (b : Batch). b.taken) (sym is)
 
-pub step_is : (side : Side) (w : Inside) (log : Log) (batch : Batch) → log_of w ≡ log
-    → batch ≡ batch_of side w.batches → step_of side log ≡ step_at batch.taken batch.stage
+pub step_is : (role : Side) (w : Inside) (log : Log) (batch : Batch) → log_of w ≡ log
+    → batch ≡ batch_of role w.batches → step_of role log ≡ step_at batch.taken batch.stage
 step_is LogSide w log batch same is =
     ap (λ (l : Log). l.log_step) (sym same) ∙ ap (λ (b : Batch). step_at b.taken b.stage) (sym is)
 step_is Home w log batch same is =
     ap (λ (l : Log). l.inst_step) (sym same) ∙ ap (λ (b : Batch). step_at b.taken b.stage) (sym is)
 
-pub stage_fits : (side : Side) (w : Inside) (batch : Batch) (stage : Stage) → IsSound w
-    → batch ≡ batch_of side w.batches → batch.stage ≡ stage → IsStageOf batch.taken stage
+pub stage_fits : (role : Side) (w : Inside) (batch : Batch) (stage : Stage) → IsSound w
+    → batch ≡ batch_of role w.batches → batch.stage ≡ stage → IsStageOf batch.taken stage
 stage_fits LogSide w batch stage sound is at =
     subst (IsStageOf batch.taken) at (subst (λ (b : Batch). IsStageOf b.taken b.stage) (sym is) sound.1)
 stage_fits Home w batch stage sound is at =
@@ -40,9 +40,9 @@ stage_fits Home w batch stage sound is at =
 
 -- ---- which call is next
 
-pub next_body_is : (side : Side) (log : Log) (io : Io) (block : BlockNo) → step_of side log < taken_by side log
-    → io.beginning ≡ log.start + ahead_of side log → io.step ≡ step_of side log → io.call ≡ Write block
-    → IsBody side log (step_of side log) block io.content → IsNextCall side log io
+pub next_body_is : (role : Side) (log : Log) (io : Io) (block : BlockNo) → step_of role log < taken_by role log
+    → io.beginning ≡ log.start + preceding_of role log → io.step ≡ step_of role log → io.call ≡ Write block
+    → IsBody role log (step_of role log) block io.content → IsNextCall role log io
 next_body_is LogSide log io block within beginning step call body = record {
   beginning = beginning;
   step = step;
@@ -60,11 +60,11 @@ next_body_is Home log io block within beginning step call body = record {
   start_barrier = λ no. absurd (omega (arith, within, no));
 }
 
-pub next_telling_is : (side : Side) (log : Log) (io : Io) (block : BlockNo)
-    → step_of side log ≡ taken_by side log + 1 → io.beginning ≡ log.start + ahead_of side log
-    → io.step ≡ step_of side log → io.call ≡ Write block → IsTelling side log block io.content
-    → IsNextCall side log io
-next_telling_is LogSide log io block at beginning step call tells = record {
+pub next_control_is : (role : Side) (log : Log) (io : Io) (block : BlockNo)
+    → step_of role log ≡ taken_by role log + 1 → io.beginning ≡ log.start + preceding_of role log
+    → io.step ≡ step_of role log → io.call ≡ Write block → IsControlWrite role log block io.content
+    → IsNextCall role log io
+next_control_is LogSide log io block at beginning step call tells = record {
   beginning = beginning;
   step = step;
   body = λ no. absurd (omega (arith, at, no));
@@ -72,7 +72,7 @@ next_telling_is LogSide log io block at beginning step call tells = record {
   header = λ _. (call ∙ ap (λ (b : BlockNo). Write b) tells.0, tells.1);
   header_barrier = λ no. absurd (omega (arith, at, no));
 }
-next_telling_is Home log io block at beginning step call tells = record {
+next_control_is Home log io block at beginning step call tells = record {
   beginning = omega (arith, beginning);
   step = step;
   home = λ no. absurd (omega (arith, at, no));
@@ -81,9 +81,9 @@ next_telling_is Home log io block at beginning step call tells = record {
   start_barrier = λ no. absurd (omega (arith, at, no));
 }
 
-pub next_barrier_is : (side : Side) (log : Log) (io : Io) → taken_by side log ≤ step_of side log
-    → (step_of side log ≡ taken_by side log + 1 → ⊥) → io.beginning ≡ log.start + ahead_of side log
-    → io.step ≡ step_of side log → io.call ≡ Barrier side → IsNextCall side log io
+pub next_barrier_is : (role : Side) (log : Log) (io : Io) → taken_by role log ≤ step_of role log
+    → (step_of role log ≡ taken_by role log + 1 → ⊥) → io.beginning ≡ log.start + preceding_of role log
+    → io.step ≡ step_of role log → io.call ≡ Barrier role → IsNextCall role log io
 next_barrier_is LogSide log io low other beginning step call = record {
   beginning = beginning;
   step = step;

@@ -1,4 +1,4 @@
 pub mod Listed
 pub mod Index
-pub mod Laid
+pub mod AbsorbedIn
 pub mod View

@@ -8,4 +8,4 @@ use Rattle.wal.specs.contracts.memory.batch.Batches.{the_row}
 use Rattle.wal.specs.Batch.{with_batch}
 
 abbrev pub LendsBatch : Side → MutBor Batches → MutBor Batch → Fml
-LendsBatch side batches batch = Lends the_row batch_row batches batch (with_batch side batches.now)
+LendsBatch role batches batch = Lends the_row batch_row batches batch (with_batch role batches.now)

@@ -2,7 +2,7 @@ pub mod View
 pub mod OnPorts
 pub mod Sides
 pub mod Batch
-pub mod BySide
+pub mod ByRole
 pub mod Lent
 pub mod Changes
 -- What the contracts here cite, for the crates above.

@@ -8,7 +8,7 @@ use Rattle.circ.specs.declared.log.calls.IoCall.TheVariants.{Write, Barrier}
 -- the call with what a write writes
 abbrev pub call_with : IoCall → Content → DeviceCall
 call_with (Write block) content = writes block.0 content
-call_with (Barrier side) content = settles side
+call_with (Barrier role) content = settles role
 
 abbrev pub port_call : Io → DeviceCall
 port_call io = call_with io.call io.content

@@ -1,7 +1,7 @@
 //! The changes of the memory log, found by the numbers of their blocks: a list, and an index over it that no contract
 //! shows.
 
-mod absorbing;
+mod absorption;
 mod changes;
 mod index;
 

@@ -11,7 +11,7 @@ use std::marker::Model;
 
 /// A device call of the logger or of the installer. It must be made and given back to the log that handed it out, as
 /// a call of the side that it was handed out to.
-pub struct SideIo {
+pub struct RoleIo {
     pub(crate) beginning: u64,
     pub(crate) step: usize,
     pub(crate) call: IoCall,
@@ -19,12 +19,12 @@ pub struct SideIo {
 }
 
 /// One of the logger.
-pub type LogIo = SideIo;
+pub type LogIo = RoleIo;
 
 /// One of the installer.
-pub type InstIo = SideIo;
+pub type InstIo = RoleIo;
 
-impl Model for SideIo {
+impl Model for RoleIo {
     ghost use Rattle.circ.specs.Log.Io.{Io};
 
     ghost Value = { Io };
@@ -37,7 +37,7 @@ impl Model for SideIo {
     } };
 }
 
-impl SideIo {
+impl RoleIo {
     /// The call to make.
     pub fn call(&self) -> IoCall
         ensures { result ≡ self.now.call }
@@ -58,7 +58,7 @@ impl SideIo {
         ensures call { HasMade (D.device disk.old) self.now result (D.device disk.new) }
         ensures failure { CountsFailure (D.device disk.old) (D.device disk.new) result }
         ensures model { D.keeps_model disk.new → D.keeps_model disk.old }
-        ensures law { (side : Side) → call_is_made side (D.device disk.old) self.now result (D.device disk.new) }
+        ensures law { (role : Side) → call_is_made role (D.device disk.old) self.now result (D.device disk.new) }
     {
         make(disk, self.call, self.content.block())
     }

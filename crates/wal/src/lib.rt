@@ -10,5 +10,5 @@ mod port_io;
 
 pub use changes::Changes;
 pub use circ::{Append, IoCall, LogChange, Room, Seq, law};
-pub use io::{InstIo, LogIo, SideIo};
+pub use io::{InstIo, LogIo, RoleIo};
 pub use memory::Wal;

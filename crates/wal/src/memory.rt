@@ -8,7 +8,7 @@ ghost use Rattle.circ.specs.Log.Room.{IsRoom};
 
 mod append;
 mod batch;
-mod by_side;
+mod by_role;
 mod calls;
 mod header;
 mod search;
@@ -123,8 +123,8 @@ impl Wal {
     pub fn added_blocks(&self, blocks: &[BlockNo]) -> usize
         ensures { result ≡ added_blocks self.now blocks.now }
     {
-        let ahead = self.logged + self.batches.log.taken;
-        search::count_new(&self.changes, ahead, blocks)
+        let preceding = self.logged + self.batches.log.taken;
+        search::count_new(&self.changes, preceding, blocks)
     }
 
     /// The count of the disk's blocks.

@@ -2,10 +2,10 @@
 ghost use Rattle.std.specs.Prelude.{◌≡◌, ◌∷◌, ◌++◌, []};
 ghost use Rattle.wal.specs.OnPorts.{call_with, port_call};
 
-use crate::{IoCall, SideIo};
+use crate::{IoCall, RoleIo};
 use disk::{Block, Failed, Port};
 
-impl SideIo {
+impl RoleIo {
     /// Makes the call on a port. One that doesn't lie on the port's side is a failure of the port.
     pub fn perform_on<P: Port>(&self, port: &mut P) -> Result<(), Failed>
         ensures call { P.calls port.new ≡ P.calls port.old ++ (port_call self.now, result) ∷ [] }

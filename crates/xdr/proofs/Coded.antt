@@ -115,11 +115,11 @@ number_takes w limit wide bytes n rest fits e =
     let is = ok_is (from_be_bytes w (take (byte_len w) bytes), drop (byte_len w) bytes) (n, rest) g.1 in
     let n-is : from_be_bytes w (take (byte_len w) bytes) ≡ n = ap (λ (p : ℕ × List ℕ). p.0) is in
     let rest-is : drop (byte_len w) bytes ≡ rest = ap (λ (p : ℕ × List ℕ). p.1) is in
-    let front : to_be_bytes w n ≡ take (byte_len w) bytes =
+    let leading : to_be_bytes w n ≡ take (byte_len w) bytes =
     rw (← n-is) (wide.back (take (byte_len w) bytes) (omega (arith, length-take (byte_len w) bytes))
     (IsBytes-take (byte_len w) bytes fits)) in (
       record {
-        parts = rw (front, ← rest-is) (sym (take-append-drop (byte_len w) bytes));
+        parts = rw (leading, ← rest-is) (sym (take-append-drop (byte_len w) bytes));
         rest_fits = rw (← rest-is) (IsBytes-drop (byte_len w) bytes fits);
       },
       rw (← n-is) (wide.below (take (byte_len w) bytes) (IsBytes-take (byte_len w) bytes fits)),
@@ -243,7 +243,7 @@ opaque_again bound small text rest le =
     let bounded : ltb bound n ≡ false = le-ltb bound n le in
     let there : ltb (length (text ++ (zeros ++ rest))) (n + padding n) ≡ false =
     le-ltb _ _ (omega (arith, length-append text (zeros ++ rest), length-append zeros rest, zeros_len)) in
-    let front : take n (text ++ (zeros ++ rest)) ≡ text = take_at text (zeros ++ rest) n refl in
+    let leading : take n (text ++ (zeros ++ rest)) ≡ text = take_at text (zeros ++ rest) n refl in
     let behind : drop n (text ++ (zeros ++ rest)) ≡ zeros ++ rest = drop_at text (zeros ++ rest) n refl in
     let pads : take (padding n) (zeros ++ rest) ≡ zeros = take_at zeros rest (padding n) zeros_len in
     let after : drop (padding n) (zeros ++ rest) ≡ rest = drop_at zeros rest (padding n) zeros_len in
@@ -253,7 +253,7 @@ opaque_again bound small text rest le =
       bounded,
       there,
       behind,
-      front,
+      leading,
       pads,
       zeros_pass (padding n),
       after,
@@ -310,8 +310,8 @@ optionals spelled Fits read coded = record {
 -- ---- bytes as they came
 
 -- the parts of bytes are bytes
-pub front_bytes : (a b : List ℕ) → IsBytes (a ++ b) → IsBytes a
-front_bytes a b h i =
+pub leading_bytes : (a b : List ℕ) → IsBytes (a ++ b) → IsBytes a
+leading_bytes a b h i =
     elim (cases_lt i (length a)) [
       | inl lt ↦ subst (λ (n : ℕ). n < 256) (get_or_append_left a b 0 i lt) (h i)
       | inr le ↦ rw (get_or_past a i 0 le) (omega arith)
@@ -326,8 +326,8 @@ unfolding opaque
 string_bytes bytes text rest fits t =
     let all : IsBytes (opaque text ++ rest) = subst IsBytes t.parts fits in
     back_bytes (word (length text)) text
-    (front_bytes (word (length text) ++ text) (replicate (padding (length text)) 0)
-    (front_bytes (opaque text) rest all))
+    (leading_bytes (word (length text) ++ text) (replicate (padding (length text)) 0)
+    (leading_bytes (opaque text) rest all))
 
 eight_takes : (bytes text rest : List ℕ) → IsBytes bytes → eight_at bytes ≡ Ok (text, rest)
     → Takes bytes text rest × ((length text ≡ 8) × IsBytes text)
@@ -336,13 +336,13 @@ eight_takes bytes text rest fits e =
     let g = guard_ok (ltb (length bytes) 8) Short (Ok (take 8 bytes, drop 8 bytes)) (text, rest) e in
     let long : 8 ≤ length bytes = ltb-false _ _ g.0 in
     let is = ok_is (take 8 bytes, drop 8 bytes) (text, rest) g.1 in
-    let front : take 8 bytes ≡ text = ap (λ (p : List ℕ × List ℕ). p.0) is in
+    let leading : take 8 bytes ≡ text = ap (λ (p : List ℕ × List ℕ). p.0) is in
     let behind : drop 8 bytes ≡ rest = ap (λ (p : List ℕ × List ℕ). p.1) is in (
       record {
-        parts = rw (← front, ← behind) (sym (take-append-drop 8 bytes));
+        parts = rw (← leading, ← behind) (sym (take-append-drop 8 bytes));
         rest_fits = rw (← behind) (IsBytes-drop 8 bytes fits);
       },
-      (rw (← front) (omega (arith, length-take 8 bytes)), rw (← front) (IsBytes-take 8 bytes fits)),
+      (rw (← leading) (omega (arith, length-take 8 bytes)), rw (← leading) (IsBytes-take 8 bytes fits)),
     )
 
 eight_again : (text rest : List ℕ) → (length text ≡ 8) × IsBytes text

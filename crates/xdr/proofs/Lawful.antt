@@ -24,7 +24,7 @@ use Rattle.xdr.proofs.Coded.{optionals as optional_items, bind_ok, guard_ok, hol
 use Rattle.xdr.specs.Codes.{Code, word, double, flag, opaque, eight, nothing, ◌then◌, made_of, viewed}
 use Rattle.xdr.specs.Codes.{fitting, optional, items_bytes, items_at, counted, chain_bytes, chain_at, chain}
 use Rattle.xdr.specs.Codes.{Arms, arm, arm_or, numbered, on_listed, arms, union, one_of, whole, Behind}
-use Rattle.xdr.specs.Codes.{here_or_behind, fewer_than, string_refused, link_refused, item_refused, is_some}
+use Rattle.xdr.specs.Codes.{here_or_behind, string_refused, link_refused, item_refused, is_some}
 use Rattle.xdr.specs.Codes.{refused_whole}
 
 pub record IsCode {A : Type 0} (F : Code A) : Type 0 where
@@ -527,9 +527,9 @@ unions G g = record {
       let a = bind_ok (number_at w32 bytes) (λ n. G.read n.0 n.1) (x, rest) e in
       let t = words.takes bytes a.0.0 a.0.1 fits a.1 in
       let u = g.takes a.0.0 a.0.1 x rest t.0.rest_fits a.2 in
-      let front : Takes bytes (items.word (G.number x)) a.0.1 =
+      let leading : Takes bytes (items.word (G.number x)) a.0.1 =
       subst (λ (n : ℕ). Takes bytes (items.word n) a.0.1) u.0 t.0 in
-      (Takes-then bytes (items.word (G.number x)) a.0.1 (G.spell x) rest front u.1, u.2);
+      (Takes-then bytes (items.word (G.number x)) a.0.1 (G.spell x) rest leading u.1, u.2);
   again = λ x rest fits. ap (union G).read (append_assoc (items.word (G.number x)) (G.spell x) rest)
       ∙ rw (words.again (G.number x) (G.spell x ++ rest) (g.small x), g.again x rest fits) refl;
   shrinks = λ bytes x rest e.
@@ -813,10 +813,10 @@ counteds bound F small f = record {
       let g = guard_ok (ltb bound a.0.0) Length (items_at F a.0.0 a.0.1) (xs, rest) a.2 in
       let t = words.takes bytes a.0.0 a.0.1 fits a.1 in
       let u = items_take F f a.0.0 a.0.1 xs rest t.0.rest_fits g.1 in
-      let front : Takes bytes (items.word (length xs)) a.0.1 =
+      let leading : Takes bytes (items.word (length xs)) a.0.1 =
       subst (λ (n : ℕ). Takes bytes (items.word n) a.0.1) (sym u.count) t.0 in
       let le : a.0.0 ≤ bound = ltb-false _ _ g.0 in (
-        Takes-then bytes (items.word (length xs)) a.0.1 (items_bytes F xs) rest front u.takes,
+        Takes-then bytes (items.word (length xs)) a.0.1 (items_bytes F xs) rest leading u.takes,
         (omega (arith, le, u.count), u.fits),
       );
   again = λ xs rest fits.

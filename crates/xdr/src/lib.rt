@@ -3,6 +3,7 @@
 #![tactic(auto)]
 
 mod fault;
+mod ghost_bytes;
 mod reader;
 mod writer;
 

@@ -37,9 +37,9 @@ impl<'a> Reader<'a> {
         if self.rest.len() < 4 {
             return Err(XdrFault::Short);
         }
-        let (front, rest) = self.rest.split_at(4);
+        let (leading, rest) = self.rest.split_at(4);
         self.rest = rest;
-        Ok(BigEndian::read_u32(front))
+        Ok(BigEndian::read_u32(leading))
     }
 
     /// An unsigned number of eight bytes (RFC 4506, section 4.5).
@@ -50,9 +50,9 @@ impl<'a> Reader<'a> {
         if self.rest.len() < 8 {
             return Err(XdrFault::Short);
         }
-        let (front, rest) = self.rest.split_at(8);
+        let (leading, rest) = self.rest.split_at(8);
         self.rest = rest;
-        Ok(BigEndian::read_u64(front))
+        Ok(BigEndian::read_u64(leading))
     }
 
     /// A flag, which is 0 or 1 (RFC 4506, section 4.4).
@@ -97,10 +97,11 @@ impl<'a> Reader<'a> {
         if self.rest.len() < 8 {
             return Err(XdrFault::Short);
         }
-        let (front, rest) = self.rest.split_at(8);
+        let (leading, rest) = self.rest.split_at(8);
         self.rest = rest;
         Ok([
-            front[0], front[1], front[2], front[3], front[4], front[5], front[6], front[7],
+            leading[0], leading[1], leading[2], leading[3], leading[4], leading[5], leading[6],
+            leading[7],
         ])
     }
 

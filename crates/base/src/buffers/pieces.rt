@@ -34,7 +34,7 @@ impl Pieces {
     }
 
     /// No bytes, with room for so many pieces.
-    pub fn with_room(alloc: Global, pieces: usize) -> Result<Pieces, AllocError>
+    pub fn with_reserved(alloc: Global, pieces: usize) -> Result<Pieces, AllocError>
         ensures { IfOk result (λ made. made ≡ []) }
     {
         Ok(Pieces {
@@ -47,7 +47,7 @@ impl Pieces {
     pub fn one(alloc: Global, bytes: Vec<u8>) -> Result<Pieces, AllocError>
         ensures { IfOk result (λ made. made ≡ bytes.items) }
     {
-        let mut made = Pieces::with_room(alloc, 1)?;
+        let mut made = Pieces::with_reserved(alloc, 1)?;
         made.push(SharedOctets::new(bytes)?)?;
         Ok(made)
     }
@@ -90,7 +90,7 @@ impl Pieces {
     pub fn append_to(&self, out: &mut Vec<u8>) -> Result<(), AllocError>
         ensures appended { OnOk result (out.new.items ≡ out.old.items ++ self.now) }
         ensures refused { OnErr result (out.new.items ≡ out.old.items) }
-        ensures room { vec_len out.old + length self.now ≤ vec_capacity out.old → IsOk result }
+        ensures has_space { vec_len out.old + length self.now ≤ vec_capacity out.old → IsOk result }
     {
         out.reserve(self.len)?;
         'parts: for part in &self.parts {

@@ -10,7 +10,7 @@ use std::marker::Model;
 
 // What shared bytes lie in.
 #[derive(Drop)]
-pub(crate) enum Place {
+pub(crate) enum Backing {
     // Bytes that were made for them, or a part of others as a record that came.
     Bytes(Bytes),
     // So many bytes of a shared block, from an offset on.
@@ -21,7 +21,7 @@ pub(crate) enum Place {
 /// no memory.
 #[derive(Drop)]
 pub struct SharedOctets {
-    place: Place,
+    backing: Backing,
 }
 
 impl Model for SharedOctets {
@@ -30,9 +30,9 @@ impl Model for SharedOctets {
 
     ghost Value = { List ℕ };
 
-    ghost view = { λ shared. bytes_in shared.place };
+    ghost view = { λ shared. bytes_in shared.backing };
 
-    ghost invariant = { λ shared. IsWithin shared.place };
+    ghost invariant = { λ shared. IsWithin shared.backing };
 }
 
 impl SharedOctets {
@@ -41,7 +41,7 @@ impl SharedOctets {
         ensures { IfOk result (λ shared. shared ≡ bytes.items) }
     {
         Ok(SharedOctets {
-            place: Place::Bytes(Bytes::from_vec(bytes)?),
+            backing: Backing::Bytes(Bytes::from_vec(bytes)?),
         })
     }
 
@@ -57,7 +57,7 @@ impl SharedOctets {
         ensures { result ≡ bytes }
     {
         SharedOctets {
-            place: Place::Bytes(bytes),
+            backing: Backing::Bytes(bytes),
         }
     }
 
@@ -74,7 +74,7 @@ impl SharedOctets {
         let block = block.clone()?;
         let _ = block.as_slice();
         Ok(SharedOctets {
-            place: Place::Block(block, offset, len),
+            backing: Backing::Block(block, offset, len),
         })
     }
 
@@ -84,12 +84,12 @@ impl SharedOctets {
         requires { from + len ≤ length self.now }
         ensures { IfOk result (λ shared. shared ≡ take len (drop from self.now)) }
     {
-        match &self.place {
-            Place::Bytes(bytes) => {
+        match &self.backing {
+            Backing::Bytes(bytes) => {
                 let _ = bytes.len();
                 Ok(SharedOctets::of_bytes(bytes.slice(from..from + len)?))
             }
-            Place::Block(block, offset, _) => SharedOctets::of_block(block, *offset + from, len),
+            Backing::Block(block, offset, _) => SharedOctets::of_block(block, *offset + from, len),
         }
     }
 
@@ -97,8 +97,8 @@ impl SharedOctets {
     pub fn whole(&self) -> Option<&SharedBlock>
         ensures { IfSome result (λ block. block.now ≡ self.now) }
     {
-        match &self.place {
-            Place::Block(block, _, len) if *len == BLOCK_BYTES => {
+        match &self.backing {
+            Backing::Block(block, _, len) if *len == BLOCK_BYTES => {
                 let _ = block.as_slice();
                 Some(block)
             }
@@ -110,9 +110,9 @@ impl SharedOctets {
     pub fn as_slice(&self) -> &[u8]
         ensures { result.now ≡ self.now }
     {
-        match &self.place {
-            Place::Bytes(bytes) => bytes.as_slice(),
-            Place::Block(block, offset, len) => &block.as_slice()[*offset..*offset + *len],
+        match &self.backing {
+            Backing::Bytes(bytes) => bytes.as_slice(),
+            Backing::Block(block, offset, len) => &block.as_slice()[*offset..*offset + *len],
         }
     }
 }
@@ -121,9 +121,9 @@ impl Clone for SharedOctets {
     ghost is_clone = { λ shared copy. copy ≡ shared };
 
     fn clone(&self) -> Result<SharedOctets, AllocError> {
-        match &self.place {
-            Place::Bytes(bytes) => Ok(SharedOctets::of_bytes(bytes.clone()?)),
-            Place::Block(block, offset, len) => SharedOctets::of_block(block, *offset, *len),
+        match &self.backing {
+            Backing::Bytes(bytes) => Ok(SharedOctets::of_bytes(bytes.clone()?)),
+            Backing::Block(block, offset, len) => SharedOctets::of_block(block, *offset, *len),
         }
     }
 }

@@ -71,4 +71,4 @@ cleared g first second third last n numbers less frees marks is long = record {
         ∙ (λ i. record (frees.parts i) { inode_bits = put (frees.parts i).inode_bits n false })
 
 pub on_disk : (g : Geometry) (n : ℕ) → n < g.inodes → inode_block g n < g.blocks
-on_disk g n less = let room = g.lawful.1.3 in let whole = g.lawful.1.2 in omega (arith, room, less, whole)
+on_disk g n less = let has_space = g.lawful.1.3 in let whole = g.lawful.1.2 in omega (arith, has_space, less, whole)

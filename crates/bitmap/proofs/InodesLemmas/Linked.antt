@@ -24,7 +24,7 @@ use Rattle.layout.specs.InodeForm.{SoundInode, inode_bytes}
 use Rattle.layout.specs.Owners.{is_used, owned_by}
 use Rattle.layout.specs.Parts.{Parts, content_in, parts_of, put, with_bytes, with_inode}
 use Rattle.layout.specs.Places.{inode_block, inode_offset}
-use Rattle.layout.proofs.FileNumbers.{near_owned}
+use Rattle.layout.proofs.FileNumbers.{direct_owned}
 use Rattle.layout.proofs.OnGrid.{data_within}
 use Rattle.layout.proofs.Spelled.{read_back, written-length}
 use Rattle.layout.proofs.Written.{not_same, parts_written}
@@ -32,10 +32,10 @@ use Rattle.layout.proofs.WrittenBytes.{inode_are}
 use Rattle.bitmap.specs.Bits.{AreOfBytes}
 use Rattle.bitmap.specs.NewBlock.{HasTaken, IsFreeBlock, marking}
 use Rattle.bitmap.proofs.Gained.{Gains, gained_file}
-use Rattle.inode.proofs.DraftsLemmas.Marks.{times}
-use Rattle.inode.proofs.DraftsLemmas.OneFile.{blocks_still}
-use Rattle.inode.proofs.DraftsLemmas.OtherWrites.{data_written}
-use Rattle.bitmap.specs.Inodes.Linked.{IsLaid, filled, linked}
+use Rattle.inode.proofs.WriteSetsLemmas.Marks.{times}
+use Rattle.inode.proofs.WriteSetsLemmas.OneFile.{blocks_still}
+use Rattle.inode.proofs.WriteSetsLemmas.OtherWrites.{data_written}
+use Rattle.bitmap.specs.Inodes.Linked.{IsLinkWritten, filled, linked}
 use Rattle.bitmap.proofs.InodesLemmas.Cleared.{on_disk}
 use Rattle.bitmap.proofs.InodesLemmas.Made.{either_true, no_use}
 
@@ -67,7 +67,7 @@ module _ (content : Image) (inode : Inode) (target : List ℕ) (block : ℕ) (so
   new_content = put content block (filled target)
 
   pub owns_it : owned_by new_content (Ok (Some new_inode)) ≡ block ∷ []
-  owns_it = near_owned new_content new_inode refl refl ∙ ap {B = List ℕ} (λ t. cond (not t) (block ∷ []) []) some
+  owns_it = direct_owned new_content new_inode refl refl ∙ ap {B = List ℕ} (λ t. cond (not t) (block ∷ []) []) some
 
   its_bytes : bytes_of new_content (take 1 new_inode.direct) ≡ filled target
   unfolding bytes_of
@@ -196,12 +196,12 @@ module _ (g : Geometry) (base : Image) (tree : Tree) (n : ℕ) (inode : Inode) (
   pub link_holds : (middle last : Image) → HasTaken g base tree (block ∷ []) middle
       → SoundInode g new_node_inode → AreBytes target → length target ≤ BLOCK_BYTES
       → ((q : ℕ) → q < g.blocks → length (middle q) ≡ BLOCK_BYTES)
-      → IsLaid g n block (filled target) new_node_inode middle last
+      → IsLinkWritten g n block (filled target) new_node_inode middle last
       → Holds g last (with_node tree n (node_with inode (model.Link target)))
-  link_holds middle last taken sound are short long laid =
-      subst (λ image. Holds g image (with_node tree n (node_with inode (model.Link target)))) (sym laid.is) (record {
-        bytes = blocks_still laid.middle (inode_block g n) (inode_offset n) (inode_bytes new_node_inode) g.blocks
-            (λ q low. (laid.long q low, laid.marks.bytes still q low)) (inode_are new_node_inode sound.fits)
+  link_holds middle last taken sound are short long link_written =
+      subst (λ image. Holds g image (with_node tree n (node_with inode (model.Link target)))) (sym link_written.is) (record {
+        bytes = blocks_still link_written.middle (inode_block g n) (inode_offset n) (inode_bytes new_node_inode) g.blocks
+            (λ q low. (link_written.long q low, link_written.marks.bytes still q low)) (inode_are new_node_inode sound.fits)
             (let count = size in omega (arith, count));
         parts = subst (λ parts. PartsHold g parts (with_node tree n (node_with inode (model.Link target))))
             (sym parts_are) parts_hold;
@@ -225,17 +225,17 @@ module _ (g : Geometry) (base : Image) (tree : Tree) (n : ℕ) (inode : Inode) (
                 (long block (data_within g block free.lies).1 ∙ sym (filled-length short)) i);
           })
 
-      before : parts_of g laid.middle ≡ record (parts_of g middle) {
+      before : parts_of g link_written.middle ≡ record (parts_of g middle) {
         content = put (parts_of g middle).content block (filled target);
         inode_bits = put (parts_of g middle).inode_bits n true;
       }
-      before = laid.marks.parts
+      before = link_written.marks.parts
           ∙ (λ i. record (block_parts i) { inode_bits = put (block_parts i).inode_bits n true })
 
-      parts_are : parts_of g (with_inode g laid.middle n new_node_inode) ≡ new
+      parts_are : parts_of g (with_inode g link_written.middle n new_node_inode) ≡ new
       parts_are =
-          parts_written g laid.middle n (inode_bytes new_node_inode) (Some new_node_inode) g.lawful.1.2 less
-          (laid.long (inode_block g n) (on_disk g n less)) size (read_back new_node_inode sound.fits g sound.good)
+          parts_written g link_written.middle n (inode_bytes new_node_inode) (Some new_node_inode) g.lawful.1.2 less
+          (link_written.long (inode_block g n) (on_disk g n less)) size (read_back new_node_inode sound.fits g sound.good)
           ∙ (λ i. record (before i) { table = put (before i).table n (Ok (Some new_node_inode)) })
           ∙ (λ i. record (taken.parts i) {
             table = put (taken.parts i).table n (Ok (Some new_node_inode));

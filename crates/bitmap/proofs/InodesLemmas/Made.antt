@@ -9,7 +9,7 @@ use Rattle.std.specs.Ordering.{nat_cmp}
 use Rattle.std.proofs.lemmas.Bool.{eq-eqb}
 use Rattle.base.specs.declared.TheConstants.{BLOCK_BYTES, INODE_BYTES}
 use Rattle.disk.specs.Crash.{Image}
-use Rattle.nfs_spec.specs.Model.Node.{DirectoryEntry, Node}
+use Rattle.nfs_spec.specs.Model.Node.{DirentValue, Node}
 use Rattle.nfs_spec.specs.Model.Tree.{Tree, node_at, with_node}
 use Rattle.nfs_spec.specs.Model.Tree as trees
 use Rattle.nfs_spec.specs.Procedures.Fresh.{IsUnused}
@@ -27,7 +27,7 @@ use Rattle.layout.specs.InodeForm.{is_sound_kind, is_sound_link, is_sound_map}
 use Rattle.layout.specs.Owners.{is_used, owned_by}
 use Rattle.layout.specs.Parts.{Parts, parts_of, put, with_inode}
 use Rattle.layout.specs.Places.{inode_block, inode_offset}
-use Rattle.layout.proofs.FileNumbers.{near_owned, near_pass, pass_near_pointers}
+use Rattle.layout.proofs.FileNumbers.{direct_owned, direct_pass, pass_indirect_pointer}
 use Rattle.layout.proofs.Frame.{ChangesOne}
 use Rattle.layout.proofs.Spelled.{read_back, written-length}
 use Rattle.layout.proofs.Written.{not_same, parts_written}
@@ -35,8 +35,8 @@ use Rattle.layout.proofs.WrittenBytes.{inode_are}
 use Rattle.inode.specs.Shown.{body_in}
 use Rattle.inode.proofs.AllTests.{all_three, all_two}
 use Rattle.bitmap.specs.Bits.{MarksNumber}
-use Rattle.inode.proofs.DraftsLemmas.Marks.{TakesAndDrops, moved_marks, times}
-use Rattle.inode.proofs.DraftsLemmas.OneFile.{blocks_still, one_file}
+use Rattle.inode.proofs.WriteSetsLemmas.Marks.{TakesAndDrops, moved_marks, times}
+use Rattle.inode.proofs.WriteSetsLemmas.OneFile.{blocks_still, one_file}
 use Rattle.bitmap.specs.Inodes.Emptied.{emptied}
 use Rattle.bitmap.proofs.InodesLemmas.Cleared.{on_disk}
 use Rattle.bitmap.proofs.InodesLemmas.Removed.{nothing_else}
@@ -77,31 +77,31 @@ bytes_zero content (n ∷ numbers) e =
 
 module _ (g : Geometry) (content : Image) (inode : Inode) where
   no_numbers : list_all (λ n. nat_eq n 0) (numbers_of content (emptied inode)) ≡ true
-  no_numbers = near_pass content (emptied inode) refl refl (λ n. nat_eq n 0) refl refl
+  no_numbers = direct_pass content (emptied inode) refl refl (λ n. nat_eq n 0) refl refl
 
   pub owns_none : owned_by content (Ok (Some (emptied inode))) ≡ []
-  owns_none = near_owned content (emptied inode) refl refl
+  owns_none = direct_owned content (emptied inode) refl refl
 
   pub rules : (kind : InodeKind) → is_sound_kind g kind (emptied inode) ≡ true
       → IsOfKind g content kind (emptied inode)
   unfolding named_in
   rules Regular good = record {
     mapped = record {
-      pointers = pass_near_pointers content (emptied inode) refl (is_data_block_or_none g) refl refl refl;
-      numbers = near_pass content (emptied inode) refl refl (is_data_block_or_none g) refl refl;
-      used = pass_near_pointers content (emptied inode) refl (is_used_pointer content) refl refl refl;
+      pointers = pass_indirect_pointer content (emptied inode) refl (is_data_block_or_none g) refl refl refl;
+      numbers = direct_pass content (emptied inode) refl refl (is_data_block_or_none g) refl refl;
+      used = pass_indirect_pointer content (emptied inode) refl (is_used_pointer content) refl refl refl;
     };
     zeros = bytes_zero content (numbers_of content (emptied inode)) no_numbers;
   }
   rules Directory good = record {
     mapped = record {
-      pointers = pass_near_pointers content (emptied inode) refl (is_data_block_or_none g) refl refl refl;
-      numbers = near_pass content (emptied inode) refl refl (is_data_block_or_none g) refl refl;
-      used = pass_near_pointers content (emptied inode) refl (is_used_pointer content) refl refl refl;
+      pointers = pass_indirect_pointer content (emptied inode) refl (is_data_block_or_none g) refl refl refl;
+      numbers = direct_pass content (emptied inode) refl refl (is_data_block_or_none g) refl refl;
+      used = pass_indirect_pointer content (emptied inode) refl (is_used_pointer content) refl refl refl;
     };
     spans = no_numbers;
     slots = λ k d less. absurd (omega (arith, less));
-    once = len-empty (slice_cmp nat_cmp) DirectoryEntry;
+    once = len-empty (slice_cmp nat_cmp) DirentValue;
   }
   rules Link good =
       let three = all_three (is_sound_file (emptied inode)) (is_sound_map g (emptied inode))

@@ -28,8 +28,8 @@ use Rattle.layout.proofs.FreshFiles.{not_below, not_equal}
 use Rattle.layout.proofs.OnGrid.{data_within}
 use Rattle.layout.proofs.Written.{not_same}
 use Rattle.bitmap.proofs.Held.{are_data}
-use Rattle.inode.proofs.DraftsLemmas.Marks.{TakesAndDrops, moved_marks, times}
-use Rattle.inode.proofs.DraftsLemmas.OneFile.{numbered}
+use Rattle.inode.proofs.WriteSetsLemmas.Marks.{TakesAndDrops, moved_marks, times}
+use Rattle.inode.proofs.WriteSetsLemmas.OneFile.{numbered}
 use Rattle.bitmap.specs.Inodes.Frees.{Clears, without}
 use Rattle.bitmap.proofs.InodesLemmas.Without.{held_by, without_others, without_them}
 

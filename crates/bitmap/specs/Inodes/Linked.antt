@@ -17,7 +17,7 @@ abbrev pub filled : List ℕ → List ℕ
 filled bytes = bytes ++ replicate (BLOCK_BYTES - length bytes) 0
 
 -- blocks in one of which these bytes were put, and then an inode whose number was marked
-pub record IsLaid (g : Geometry) (number block : ℕ) (bytes : List ℕ) (inode : Inode) (old new : Image) : Type 0
+pub record IsLinkWritten (g : Geometry) (number block : ℕ) (bytes : List ℕ) (inode : Inode) (old new : Image) : Type 0
   where
     pub middle : Image
     pub marks : MarksNumber g number true (with_bytes old block 0 bytes) middle

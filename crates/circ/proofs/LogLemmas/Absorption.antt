@@ -213,10 +213,10 @@ fresh-all (change ∷ group) = ap (λ xs. change ∷ xs) (fresh-all group)
 some_length : (n : ℕ) → nat_eq (suc n) 0 ≡ false
 some_length n = ne_eqb (suc n) 0 (λ h. absurd (omega arith))
 
-place_of : (front tail : List LogChange) (places : ℕ) (group : List (BlockNo × Content))
-    → place_before (front ++ tail_with tail (places + 1) group) (places + 1)
-    ≡ (if nat_eq (length (front ++ tail)) 0 && nat_eq (length group) 0 then places + 1
-    else place_before (front ++ tail) places)
+place_of : (leading tail : List LogChange) (places : ℕ) (group : List (BlockNo × Content))
+    → place_before (leading ++ tail_with tail (places + 1) group) (places + 1)
+    ≡ (if nat_eq (length (leading ++ tail)) 0 && nat_eq (length group) 0 then places + 1
+    else place_before (leading ++ tail) places)
 place_of [] [] places group =
     ap (λ g. place_before (changes_of (places + 1) g) (places + 1)) (fresh-all group)
     ∙ place_before-append [] places group
@@ -226,8 +226,8 @@ place_of (x ∷ xs) tail places group = rw (some_length (length (xs ++ tail))) r
 -- ---- the log
 
 module _ (log : Log) (group : List (BlockNo × Content)) (h : IsLawful log) where
-  abbrev front : List LogChange
-  front = take (log.logged + log.taken) log.changes
+  abbrev leading : List LogChange
+  leading = take (log.logged + log.taken) log.changes
 
   abbrev tail : List LogChange
   tail = drop (log.logged + log.taken) log.changes
@@ -235,20 +235,20 @@ module _ (log : Log) (group : List (BlockNo × Content)) (h : IsLawful log) wher
   abbrev new : List LogChange
   new = tail_with tail (log.places + 1) group
 
-  whole : front ++ tail ≡ log.changes
+  whole : leading ++ tail ≡ log.changes
   whole = take-append-drop (log.logged + log.taken) log.changes
 
-  pub front_length : length front ≡ log.logged + log.taken
-  front_length = length-take-le (log.logged + log.taken) log.changes h.taken_within
+  pub leading_length : length leading ≡ log.logged + log.taken
+  leading_length = length-take-le (log.logged + log.taken) log.changes h.taken_within
 
-  within : (count : ℕ) → count ≤ log.logged + log.taken → count ≤ length front
-  within count le = omega (arith, front_length)
+  within : (count : ℕ) → count ≤ log.logged + log.taken → count ≤ length leading
+  within count le = omega (arith, leading_length)
 
-  split : (count : ℕ) → count ≤ log.logged + log.taken → drop count (front ++ new) ≡ drop count front ++ new
-  split count le = drop-append-le count front new (within count le)
+  split : (count : ℕ) → count ≤ log.logged + log.taken → drop count (leading ++ new) ≡ drop count leading ++ new
+  split count le = drop-append-le count leading new (within count le)
 
-  was : (count : ℕ) → count ≤ log.logged + log.taken → drop count log.changes ≡ drop count front ++ tail
-  was count le = ap (λ xs. drop count xs) (sym whole) ∙ drop-append-le count front tail (within count le)
+  was : (count : ℕ) → count ≤ log.logged + log.taken → drop count log.changes ≡ drop count leading ++ tail
+  was count le = ap (λ xs. drop count xs) (sym whole) ∙ drop-append-le count leading tail (within count le)
 
   pub committed_tail : All IsCommitted tail
   committed_tail = subst (λ xs. All IsCommitted xs) (drop-drop log.taken log.logged log.changes)
@@ -272,41 +272,41 @@ module _ (log : Log) (group : List (BlockNo × Content)) (h : IsLawful log) wher
     installing = refl;
     logged = refl;
     taken = refl;
-    front = λ count le. take-append-le count front new (within count le)
-        ∙ sym (take-append-le count front tail (within count le)) ∙ ap (take count) whole;
+    leading = λ count le. take-append-le count leading new (within count le)
+        ∙ sym (take-append-le count leading tail (within count le)) ∙ ap (take count) whole;
     behind = λ count le block. ap (λ xs. newest_of xs block) (split count le)
-        ∙ newest_of-append (drop count front) new block
-        ∙ ap (λ o. or_else o (newest_of (drop count front) block))
+        ∙ newest_of-append (drop count leading) new block
+        ∙ ap (λ o. or_else o (newest_of (drop count leading) block))
         (newest_of-tail tail log.places group block)
         ∙ sym (or_else-assoc (newest_in group block) (newest_of tail block)
-        (newest_of (drop count front) block))
-        ∙ ap (λ o. or_else (newest_in group block) o) (sym (newest_of-append (drop count front) tail block)
+        (newest_of (drop count leading) block))
+        ∙ ap (λ o. or_else (newest_in group block) o) (sym (newest_of-append (drop count leading) tail block)
         ∙ ap (λ xs. newest_of xs block) (sym (was count le)));
     place = λ count le. ap (λ xs. place_before xs (log.places + 1)) (split count le)
-        ∙ place_of (drop count front) tail log.places group
+        ∙ place_of (drop count leading) tail log.places group
         ∙ ap (λ xs. if nat_eq (length xs) 0 && nat_eq (length group) 0 then log.places + 1
         else place_before xs log.places) (sym (was count le));
-    opened = λ count le. ap recovered (split count le) ∙ recovered-append (drop count front) new
-        ∙ append_nothing (recovered (drop count front)) (recovered new) none_new
-        ∙ sym (append_nothing (recovered (drop count front)) (recovered tail) none_old)
-        ∙ sym (recovered-append (drop count front) tail) ∙ ap recovered (sym (was count le));
+    opened = λ count le. ap recovered (split count le) ∙ recovered-append (drop count leading) new
+        ∙ append_nothing (recovered (drop count leading)) (recovered new) none_new
+        ∙ sym (append_nothing (recovered (drop count leading)) (recovered tail) none_old)
+        ∙ sym (recovered-append (drop count leading) tail) ∙ ap recovered (sym (was count le));
   }
 
   -- the tail has the blocks more that it lacked
   pub tail_is : tail_blocks (with_group log group)
       ≡ tail_blocks log ++ new_blocks (tail_blocks log) (blocks_of group)
-  tail_is = ap changed_blocks (drop-append-le (log.logged + log.taken) front new (omega (arith, front_length))
-      ∙ ap (λ xs. xs ++ new) (drop_all (log.logged + log.taken) front (omega (arith, front_length))))
+  tail_is = ap changed_blocks (drop-append-le (log.logged + log.taken) leading new (omega (arith, leading_length))
+      ∙ ap (λ xs. xs ++ new) (drop_all (log.logged + log.taken) leading (omega (arith, leading_length))))
       ∙ blocks-tail tail (log.places + 1) group
 
   pub count_is : length (with_group log group).changes
       ≡ length log.changes + added_blocks log (blocks_of group)
   count_is =
-      let a = length-append front new in
+      let a = length-append leading new in
       let c = ap length (blocks-tail tail (log.places + 1) group) in
       let d = length-map new (λ (change : LogChange). change.block) in
       let e = length-map tail (λ (change : LogChange). change.block) in
       let f = length-append (changed_blocks tail) (new_blocks (changed_blocks tail) (blocks_of group)) in
       let g = ap length whole in
-      let i = length-append front tail in
+      let i = length-append leading tail in
       omega (arith, a, c, d, e, f, g, i)

@@ -53,7 +53,7 @@ positions_are header image start changes (suc n) l homes slots =
           ∙ ap (λ x. take n changes ++ x ∷ []) item in
           rw (before, homes n (omega arith) change is, slots n (omega arith) change is, taken)
           (sym (map-append (λ (x : LogChange). (x.block, x.content)) (take n changes) (change ∷ [])))
-      | inr past ↦ absurd (let far : length changes ≤ n = past.0 in omega arith)
+      | inr past ↦ absurd (let beyond_all : length changes ≤ n = past.0 in omega arith)
     ]
 
 content_or-or_else : (a b : Option Content) (c : Content)
@@ -155,7 +155,7 @@ homes_shown image log count gone h s k lt =
           All-get_or (λ (x : LogChange). IsHomeOn log.blocks x.block) log.changes (gone + k) change within
           h.homes in
           subst (IsHomeOn log.blocks) (ap (λ (x : LogChange). x.block) found.3 ∙ sym same) home
-      | inr past ↦ absurd (let far : length log.changes ≤ gone + k = past.0 in omega arith)
+      | inr past ↦ absurd (let beyond_all : length log.changes ≤ gone + k = past.0 in omega arith)
     ]
 
 content_or-some : (a : Option Content) (c x y : Content)
@@ -189,10 +189,10 @@ after_unraised image base log count block s le (inr new) =
     block) (image block) (image block) (base block))
 
 -- raised: what is at home is new, and the rest of the log lies over it
-pub after_raised : (image base : Image) (log : Log) (count block : ℕ) → Shows image log count log.installing
+pub after_advanced : (image base : Image) (log : Log) (count block : ℕ) → Shows image log count log.installing
     → image block ≡ with_changes base (take log.installing log.changes) block
     → over image block ≡ with_changes base (take count log.changes) block
-after_raised image base log count block s new =
+after_advanced image base log count block s new =
     let rest : Option Content =
     newest_of (take (count - log.installing) (drop log.installing log.changes)) block in
     over_shown image log count log.installing block s
@@ -208,15 +208,15 @@ new_either (Some c) content old h = inr (ap Some (sym h))
 new_either None content old h = inl h
 
 -- how far the start of an image is raised, and what is at home then
-pub data Raised (image base : Image) (log : Log) : Type 0 where
+pub data Advanced (image base : Image) (log : Log) : Type 0 where
   Unraised : IsStartBehind log 0 (image START_BLOCK)
       → ((block : ℕ) → IsOutside log.blocks block → (image block ≡ base block)
       ⊎ (brought_home log block ≡ Some (image block)))
-      → Raised image base log
+      → Advanced image base log
   Installed : IsStartBehind log log.installing (image START_BLOCK)
       → ((block : ℕ) → IsOutside log.blocks block
       → image block ≡ with_changes base (take log.installing log.changes) block)
-      → Raised image base log
+      → Advanced image base log
 
 -- the settled groups, or one more
 abbrev IsEnd : Log → ℕ → Type 0
@@ -246,7 +246,7 @@ boundary_of : (image base : Image) (log : Log) (count : ℕ) → IsLawful log �
     → IsHeaderOf log count (image LOG_HEADER_BLOCK)
     → ((k : ℕ) → k < count → (change : LogChange) → slice_get log.changes k ≡ Some change
     → image (slot_block (log.start + k)) ≡ change.content)
-    → Raised image base log → Opens image base log count
+    → Advanced image base log → Opens image base log count
 boundary_of image base log count h within few le to header slots (Unraised start home) =
     let s : Shows image log count 0 =
     record {
@@ -269,22 +269,22 @@ boundary_of image base log count h within few le to header slots (Installed star
     record {
       range = range_shown image log count log.installing s;
       homes = homes_shown image log count log.installing h s;
-      blocks = λ block outside. after_raised image base log count block s (home block outside);
+      blocks = λ block outside. after_advanced image base log count block s (home block outside);
       positions = shown image log count log.installing (inr refl) to s;
     }
 
-raised_of : (d : Device) (base : Image) (log : Log) (image : Image) → IsLawful log → Agrees d base log
-    → IsCrashImage d d.clock image → Raised image base log
-raised_of d base log image h a crash =
+advanced_of : (d : Device) (base : Image) (log : Log) (image : Image) → IsLawful log → Agrees d base log
+    → IsCrashImage d d.clock image → Advanced image base log
+advanced_of d base log image h a crash =
     let at : START_BLOCK < d.size = omega (arith, h.disk, a.size) in
     let outside : (block : ℕ) → IsOutside log.blocks block
     → block < d.size = λ block o. omega (arith, o.0, a.size) in
-    elim (cases_lt log.installing log.inst_step) as (λ _. Raised image base log) [
+    elim (cases_lt log.installing log.inst_step) as (λ _. Advanced image base log) [
       | inl made ↦
           let new : (block : ℕ) → IsOutside log.blocks block
           → image block ≡ with_changes base (take log.installing log.changes) block =
           λ block o. a.homes.brought made block o (image block) (crash block (outside block o)) in
-          elim (a.homes.raised_start made (image START_BLOCK) (crash START_BLOCK at)) as (λ _. Raised image
+          elim (a.homes.advanced_start made (image START_BLOCK) (crash START_BLOCK at)) as (λ _. Advanced image
           base log) [
             | inl start ↦ Unraised start
                 (λ block o. new_either (newest_of (take log.installing log.changes) block) (image block)
@@ -317,8 +317,8 @@ crash_boundary d base log image h a crash =
       | inr notyet ↦ old (a.own.header notyet (image LOG_HEADER_BLOCK) there)
     ]
   where
-    raised : Raised image base log
-    raised = raised_of d base log image h a crash
+    advanced : Advanced image base log
+    advanced = advanced_of d base log image h a crash
 
     at : LOG_HEADER_BLOCK < d.size
     at = omega (arith, h.disk, a.size)
@@ -327,7 +327,7 @@ crash_boundary d base log image h a crash =
     old header =
         let o = boundary_of image base log log.logged h (omega (arith, h.taken_within))
         (omega (arith, h.slots)) h.installing (inl refl) header
-        (slots_of d base log image log.logged h a crash a.own.slots) raised in
+        (slots_of d base log image log.logged h a crash a.own.slots) advanced in
         record { range = o.range; homes = o.homes; blocks = inl o.blocks; positions = o.positions }
 
     new : log.taken < log.log_step → IsHeaderOf log (log.logged + log.taken) (image LOG_HEADER_BLOCK)
@@ -335,5 +335,5 @@ crash_boundary d base log image h a crash =
     new made header =
         let o = boundary_of image base log (log.logged + log.taken) h h.taken_within h.slots
         (omega (arith, h.installing)) (inr refl) header
-        (slots_of d base log image (log.logged + log.taken) h a crash (a.own.group_slots made)) raised in
+        (slots_of d base log image (log.logged + log.taken) h a crash (a.own.group_slots made)) advanced in
         record { range = o.range; homes = o.homes; blocks = inr o.blocks; positions = o.positions }

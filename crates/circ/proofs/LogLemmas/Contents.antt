@@ -7,27 +7,27 @@ use Rattle.std.proofs.Math.Seq.{get_or-append_seam}
 use Rattle.std.specs.Prelude.{Contains}
 use Rattle.disk.specs.declared.block.Side.{Side}
 use Rattle.disk.specs.declared.device.Failed.{Failed}
-use Rattle.disk.specs.Device.{Content, Device, current, newest, newest_alone, is_on, Appends, Settles}
+use Rattle.disk.specs.Device.{Content, Device, current, newest, newest_only, is_on, Appends, Settles}
 use Rattle.disk.specs.Device.{HasRead, HasWritten, HasSettled}
 use Rattle.circ.specs.Log.Law.{LeavesOnly}
 
 -- A block of which no content was added, and whose newest stayed.
-pub record Keeps (old new : Device) (block : ℕ) : Type 0 where
+pub record PreservesContent (old new : Device) (block : ℕ) : Type 0 where
   pub within : (content : Content) → Contains (current new block) content
       → Contains (current old block) content
   pub newest : newest (current new block) ≡ newest (current old block)
 
-pub keeps_same : (old new : Device) (block : ℕ) → current new block ≡ current old block → Keeps old new block
-keeps_same old new block e = record {
+pub preserves_same : (old new : Device) (block : ℕ) → current new block ≡ current old block → PreservesContent old new block
+preserves_same old new block e = record {
   within = λ content h. subst (λ (xs : List Content). Contains xs content) e h;
   newest = ap newest e;
 }
 
-pub leaves_kept : (old new : Device) (block : ℕ) (P : Content → Type 0) → Keeps old new block
+pub leaves_preserved : (old new : Device) (block : ℕ) (P : Content → Type 0) → PreservesContent old new block
     → LeavesOnly old block P → LeavesOnly new block P
-leaves_kept old new block P keeps h content there = h content (keeps.within content there)
+leaves_preserved old new block P preserves h content there = h content (preserves.within content there)
 
-newest_settled : (contents : List Content) → newest (newest_alone contents) ≡ newest contents
+newest_settled : (contents : List Content) → newest (newest_only contents) ≡ newest contents
 newest_settled contents =
     let n : ℕ = length contents - 1 in
     let len : length (drop n contents) ≡ length contents - n = length-drop n contents in
@@ -35,7 +35,7 @@ newest_settled contents =
     get_or-drop n contents (length (drop n contents) - 1) [] ∙ ap (λ (i : ℕ). get_or contents i []) at
 
 -- a member of what is settled was a member
-settled_within : (contents : List Content) (content : Content) → Contains (newest_alone contents) content
+settled_within : (contents : List Content) (content : Content) → Contains (newest_only contents) content
     → Contains contents content
 settled_within contents content (i, h, e) =
     let len : length (drop (length contents - 1) contents) ≡ length contents - (length contents - 1) =
@@ -47,7 +47,7 @@ settled_within contents content (i, h, e) =
     )
 
 -- and is the newest
-settled_newest : (contents : List Content) (content : Content) → Contains (newest_alone contents) content
+settled_newest : (contents : List Content) (content : Content) → Contains (newest_only contents) content
     → content ≡ newest contents
 settled_newest contents content (i, h, e) =
     let len : length (drop (length contents - 1) contents) ≡ length contents - (length contents - 1) =
@@ -63,7 +63,7 @@ settles_within : (side : Side) (block : ℕ) (r : Result Unit Failed) (old new :
 settles_within side block (Err u) old new h =
     (λ content there. subst (λ (xs : List Content). Contains xs content) h there, ap newest h)
 settles_within side block (Ok u) old new h =
-    elim (is_on side block) as (λ on. new ≡ (if on then newest_alone old else old)
+    elim (is_on side block) as (λ on. new ≡ (if on then newest_only old else old)
     → ((content : Content) → Contains new content → Contains old content) × (newest new ≡ newest old)) [
       | true ↦ λ e. (
         λ content there. settled_within old content
@@ -77,22 +77,22 @@ settles_within side block (Ok u) old new h =
     ] h
 
 -- a barrier keeps each block
-pub keeps_settled : (old new : Device) (side : Side) (r : Result Unit Failed) (block : ℕ)
-    → HasSettled old side r new → Keeps old new block
-keeps_settled old new side r block h =
+pub preserves_settled : (old new : Device) (side : Side) (r : Result Unit Failed) (block : ℕ)
+    → HasSettled old side r new → PreservesContent old new block
+preserves_settled old new side r block h =
     let p = settles_within side block r (current old block) (current new block) (h.contents block) in
     record { within = p.0; newest = p.1 }
 
-pub keeps_read : (old new : Device) (block : ℕ) → HasRead old new → Keeps old new block
-keeps_read old new block h = keeps_same old new block (h.contents block)
+pub preserves_read : (old new : Device) (block : ℕ) → HasRead old new → PreservesContent old new block
+preserves_read old new block h = preserves_same old new block (h.contents block)
 
 -- a barrier of its side leaves of a block only the newest
 pub leaves_newest : (old new : Device) (side : Side) (block : ℕ) (P : Content → Type 0)
     → HasSettled old side (Ok tt) new → is_on side block ≡ true
     → P (newest (current old block)) → LeavesOnly new block P
 leaves_newest old new side block P h on holds content there =
-    let e : current new block ≡ newest_alone (current old block) = h.contents block
-    ∙ ap (λ (t : Bool). if t then newest_alone (current old block) else current old block) on in
+    let e : current new block ≡ newest_only (current old block) = h.contents block
+    ∙ ap (λ (t : Bool). if t then newest_only (current old block) else current old block) on in
     let is : content ≡ newest (current old block) =
     settled_newest (current old block) content
     (subst (λ (xs : List Content). Contains xs content) e there) in

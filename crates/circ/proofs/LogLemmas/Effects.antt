@@ -17,9 +17,9 @@ use Rattle.circ.proofs.LogLemmas.Places.{place_before-drop-le, rising-drop}
 use Rattle.circ.proofs.LogLemmas.Absorption.{grows, tail_is}
 
 -- what is in the front of a list is in the list
-front_within : (xs : List LogChange) (n : ℕ) (block : ℕ)
+leading_within : (xs : List LogChange) (n : ℕ) (block : ℕ)
     → newest_of xs block ≡ or_else (newest_of (drop n xs) block) (newest_of (take n xs) block)
-front_within xs n block = ap (λ ys. newest_of ys block) (sym (take-append-drop n xs))
+leading_within xs n block = ap (λ ys. newest_of ys block) (sym (take-append-drop n xs))
     ∙ newest_of-append (take n xs) (drop n xs) block
 
 or_else-again : (a b : Option Content) → or_else a b ≡ or_else (or_else a b) b
@@ -28,10 +28,10 @@ or_else-again None (Some b) = refl
 or_else-again None None = refl
 
 -- nothing is let go
-pub newest-kept : (xs : List LogChange) (n : ℕ) (block : ℕ)
+pub newest-is_preserved : (xs : List LogChange) (n : ℕ) (block : ℕ)
     → newest_of xs block ≡ or_else (newest_of xs block) (newest_of (take n xs) block)
-newest-kept xs n block =
-    let e = front_within xs n block in
+newest-is_preserved xs n block =
+    let e = leading_within xs n block in
     rw e (or_else-again (newest_of (drop n xs) block) (newest_of (take n xs) block))
 
 pub seen_append : (log : Log) (group : List (BlockNo × Content)) → IsLawful log
@@ -49,7 +49,7 @@ seen_append log group h =
     }
 
 -- A step that lets no change go and settles none.
-keeps_all : (log : Log) (taken log_step : ℕ) (log_out : Bool) (installing inst_step : ℕ)
+preserves_all : (log : Log) (taken log_step : ℕ) (log_out : Bool) (installing inst_step : ℕ)
     (inst_out broken : Bool)
     → log.taken ≤ taken
     → (log.broken ≡ true → broken ≡ true)
@@ -62,13 +62,13 @@ keeps_all : (log : Log) (taken log_step : ℕ) (log_out : Bool) (installing inst
       inst_out = inst_out;
       broken = broken;
     })
-keeps_all log taken log_step log_out installing inst_step inst_out broken more stays =
+preserves_all log taken log_step log_out installing inst_step inst_out broken more stays =
     record {
       blocks = refl;
       places = refl;
       broken = stays;
       tail = omega (arith, more);
-      newest_content = newest-kept log.changes log.installing;
+      newest_content = newest-is_preserved log.changes log.installing;
       settled = omega arith;
       installed = omega arith;
     }
@@ -78,7 +78,7 @@ log_moves : (log : Log) (taken log_step : ℕ) (log_out broken : Bool) → log.t
     → (log.broken ≡ true → broken ≡ true)
     → HasGoneOn log (record log { taken = taken; log_step = log_step; log_out = log_out; broken = broken })
 log_moves log taken log_step log_out broken more stays =
-    keeps_all log taken log_step log_out log.installing log.inst_step log.inst_out broken more stays
+    preserves_all log taken log_step log_out log.installing log.inst_step log.inst_out broken more stays
 
 inst_moves : (log : Log) (installing inst_step : ℕ) (inst_out broken : Bool)
     → (log.broken ≡ true → broken ≡ true)
@@ -89,7 +89,7 @@ inst_moves : (log : Log) (installing inst_step : ℕ) (inst_out broken : Bool)
       broken = broken;
     })
 inst_moves log installing inst_step inst_out broken stays =
-    keeps_all log log.taken log.log_step log.log_out installing inst_step inst_out broken (omega arith) stays
+    preserves_all log log.taken log.log_step log.log_out installing inst_step inst_out broken (omega arith) stays
 
 pub seen_same : (log : Log) → HasGoneOn log log
 seen_same log = log_moves log log.taken log.log_step log.log_out log.broken (omega arith) (λ b. b)
@@ -120,7 +120,7 @@ seen_log_made log h =
         places = refl;
         broken = λ b. b;
         tail = omega arith;
-        newest_content = newest-kept log.changes log.installing;
+        newest_content = newest-is_preserved log.changes log.installing;
         settled = settled_more log h;
         installed = omega arith;
       }
@@ -163,7 +163,7 @@ seen_installed log h =
       places = refl;
       broken = λ b. b;
       tail = omega (arith, n, h.installing);
-      newest_content = front_within log.changes log.installing;
+      newest_content = leading_within log.changes log.installing;
       settled = omega (arith, same);
       installed = place_before-drop-le log.changes log.places log.installing h.rising;
     }

@@ -33,29 +33,29 @@ number_at-same content offset number h fits =
     ∙ drop_at (take offset content) (to_le_bytes w64 number ++ rest) offset t in
     ap (λ bytes. from_le_bytes w64 (take 8 bytes)) e ∙ from_le_bytes-to_le_bytes_8 number fits
 
-within_front : (front rest : List ℕ) (at : ℕ) → at + 8 ≤ length front
-    → take 8 (drop at (front ++ rest)) ≡ take 8 (drop at front)
-within_front front rest at h =
-    let n : 8 ≤ length (drop at front) = omega (arith, length-drop at front) in
-    let m : at ≤ length front = omega arith in
-    ap (take 8) (drop-append-le at front rest m) ∙ take-append-le 8 (drop at front) rest n
+within_leading : (leading rest : List ℕ) (at : ℕ) → at + 8 ≤ length leading
+    → take 8 (drop at (leading ++ rest)) ≡ take 8 (drop at leading)
+within_leading leading rest at h =
+    let n : 8 ≤ length (drop at leading) = omega (arith, length-drop at leading) in
+    let m : at ≤ length leading = omega arith in
+    ap (take 8) (drop-append-le at leading rest m) ∙ take-append-le 8 (drop at leading) rest n
 
 -- a number before the one that was put
 pub number_at-before : (content : Content) (offset number at : ℕ) → offset + 8 ≤ length content
     → at + 8 ≤ offset → number_at (with_number content offset number) at ≡ number_at content at
 unfolding number_at with_number
 number_at-before content offset number at h lt =
-    let front : List ℕ = take offset content in
-    let t : length front ≡ offset = length-take-le offset content (omega arith) in
-    let n : at + 8 ≤ length front = omega arith in
+    let leading : List ℕ = take offset content in
+    let t : length leading ≡ offset = length-take-le offset content (omega arith) in
+    let n : at + 8 ≤ length leading = omega arith in
     let rest : List ℕ = to_le_bytes w64 number ++ drop (offset + 8) content in
-    let new : take 8 (drop at (with_number content offset number)) ≡ take 8 (drop at front) =
+    let new : take 8 (drop at (with_number content offset number)) ≡ take 8 (drop at leading) =
     ap (λ bytes. take 8 (drop at bytes))
-    (append_assoc front (to_le_bytes w64 number) (drop (offset + 8) content))
-    ∙ within_front front rest at n in
-    let old : take 8 (drop at content) ≡ take 8 (drop at front) =
+    (append_assoc leading (to_le_bytes w64 number) (drop (offset + 8) content))
+    ∙ within_leading leading rest at n in
+    let old : take 8 (drop at content) ≡ take 8 (drop at leading) =
     ap (λ bytes. take 8 (drop at bytes)) (sym (take-append-drop offset content))
-    ∙ within_front front (drop offset content) at n in
+    ∙ within_leading leading (drop offset content) at n in
     ap (from_le_bytes w64) (new ∙ sym old)
 
 -- a number behind the one that was put
@@ -63,16 +63,16 @@ pub number_at-behind : (content : Content) (offset number at : ℕ) → offset +
     → offset + 8 ≤ at → number_at (with_number content offset number) at ≡ number_at content at
 unfolding number_at with_number
 number_at-behind content offset number at h le =
-    let front : List ℕ = take offset content ++ to_le_bytes w64 number in
+    let leading : List ℕ = take offset content ++ to_le_bytes w64 number in
     let t : length (take offset content) ≡ offset = length-take-le offset content (omega arith) in
-    let n : length front ≡ offset + 8 = length-append (take offset content) (to_le_bytes w64 number)
+    let n : length leading ≡ offset + 8 = length-append (take offset content) (to_le_bytes w64 number)
     ∙ ap (λ k. k + 8) t in
     let j : ℕ = at - (offset + 8) in
-    let m : length front + j ≡ at = omega arith in
+    let m : length leading + j ≡ at = omega arith in
     let k : (offset + 8) + j ≡ at = omega arith in
     let new : drop at (with_number content offset number) ≡ drop j (drop (offset + 8) content) =
-    ap (λ i. drop i (front ++ drop (offset + 8) content)) (sym m)
-    ∙ drop-append-add front (drop (offset + 8) content) j in
+    ap (λ i. drop i (leading ++ drop (offset + 8) content)) (sym m)
+    ∙ drop-append-add leading (drop (offset + 8) content) j in
     let old : drop j (drop (offset + 8) content) ≡ drop at content = drop-drop j (offset + 8) content
     ∙ ap (λ i. drop i content) k in
     ap (λ bytes. from_le_bytes w64 (take 8 bytes)) (new ∙ old)

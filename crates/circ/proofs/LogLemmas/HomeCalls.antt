@@ -26,18 +26,18 @@ use Rattle.circ.specs.Log.Calls.{HasMadeInstCall}
 use Rattle.circ.specs.Log.Overlay.{content_or}
 use Rattle.circ.proofs.LogLemmas.EightBytes.{number_at-same}
 use Rattle.circ.proofs.LogLemmas.Newest.{newest_of-drop}
-use Rattle.circ.proofs.LogLemmas.Contents.{Keeps, keeps_same, keeps_settled, leaves_kept, leaves_newest}
+use Rattle.circ.proofs.LogLemmas.Contents.{PreservesContent, preserves_same, preserves_settled, leaves_preserved, leaves_newest}
 use Rattle.circ.proofs.LogLemmas.Contents.{leaves_written, newest_written}
 use Rattle.circ.proofs.LogLemmas.Steps.{Step, writes, settles, tells, ends, step_of, made_write, made_barrier}
 use Rattle.circ.proofs.LogLemmas.Steps.{change_at}
-use Rattle.circ.proofs.LogLemmas.LogCalls.{KeepsOwn, keeps_barrier}
+use Rattle.circ.proofs.LogLemmas.LogCalls.{PreservesOwn, preserves_barrier}
 
 -- the blocks beside the log's own are kept
-abbrev pub KeepsHomes : Device → Device → Type 0
-KeepsHomes old new = (block : ℕ) → (block < LOG_HEADER_BLOCK) ⊎ (START_BLOCK ≤ block) → Keeps old new block
+abbrev pub PreservesHomes : Device → Device → Type 0
+PreservesHomes old new = (block : ℕ) → (block < LOG_HEADER_BLOCK) ⊎ (START_BLOCK ≤ block) → PreservesContent old new block
 
-beside_log : (blocks block : ℕ) → IsOutside blocks block → (block < LOG_HEADER_BLOCK) ⊎ (START_BLOCK ≤ block)
-beside_log blocks block outside =
+outside_log : (blocks block : ℕ) → IsOutside blocks block → (block < LOG_HEADER_BLOCK) ⊎ (START_BLOCK ≤ block)
+outside_log blocks block outside =
     elim (outside.1) as (λ _. (block < LOG_HEADER_BLOCK) ⊎ (START_BLOCK ≤ block)) [
       | inl below ↦ inl below
       | inr above ↦ inr (omega arith)
@@ -59,43 +59,43 @@ Either base log block content = (content ≡ base block) ⊎ (brought_home log b
 abbrev Brought : Image → Log → ℕ → Content → Type 0
 Brought base log block content = content ≡ with_changes base (take log.installing log.changes) block
 
-abbrev Raised : Log → Content → Type 0
-Raised log content = IsStartBehind log 0 content ⊎ IsStartBehind log log.installing content
+abbrev Advanced : Log → Content → Type 0
+Advanced log content = IsStartBehind log 0 content ⊎ IsStartBehind log log.installing content
 
-pub homes_kept : (old new : Device) (base : Image) (log : Log) → KeepsHomes old new → HomeAgrees old base log
+pub homes_preserved : (old new : Device) (base : Image) (log : Log) → PreservesHomes old new → HomeAgrees old base log
     → HomeAgrees new base log
-homes_kept old new base log keeps h =
-    let at : (block : ℕ) → IsOutside log.blocks block → Keeps old new block =
-    λ block outside. keeps block (beside_log log.blocks block outside) in
-    let start = keeps START_BLOCK (inr (omega arith)) in
+homes_preserved old new base log preserves h =
+    let at : (block : ℕ) → IsOutside log.blocks block → PreservesContent old new block =
+    λ block outside. preserves block (outside_log log.blocks block outside) in
+    let start = preserves START_BLOCK (inr (omega arith)) in
     record {
       chosen = h.chosen;
-      home = λ before block outside. leaves_kept old new block (Either base log block) (at block outside)
+      home = λ before block outside. leaves_preserved old new block (Either base log block) (at block outside)
           (h.home before block outside);
       written = λ before block outside past content is. (at block outside).newest
           ∙ h.written before block outside past content is;
-      start = λ before. leaves_kept old new START_BLOCK (IsStartBehind log 0) start (h.start before);
-      brought = λ later block outside. leaves_kept old new block (Brought base log block) (at block outside)
+      start = λ before. leaves_preserved old new START_BLOCK (IsStartBehind log 0) start (h.start before);
+      brought = λ later block outside. leaves_preserved old new block (Brought base log block) (at block outside)
           (h.brought later block outside);
-      raised_start = λ later. leaves_kept old new START_BLOCK (Raised log) start (h.raised_start later);
+      advanced_start = λ later. leaves_preserved old new START_BLOCK (Advanced log) start (h.advanced_start later);
       newest_start = λ end. subst (IsStartBehind log log.installing) (sym start.newest) (h.newest_start end);
     }
 
-pub inst_made_kept : (old new : Device) (base : Image) (log : Log) → IsLawful log → KeepsHomes old new
+pub inst_made_preserved : (old new : Device) (base : Image) (log : Log) → IsLawful log → PreservesHomes old new
     → HasMadeInstCall old base log → HasMadeInstCall new base log
-inst_made_kept old new base log lawful keeps h =
-    let start = keeps START_BLOCK (inr (omega arith)) in
+inst_made_preserved old new base log lawful preserves h =
+    let start = preserves START_BLOCK (inr (omega arith)) in
     record {
       home = λ lt change is.
           let home = home_of log log.inst_step change lawful is in
           let low : START_BLOCK ≤ change.block.0 = omega (arith, home.0) in
-          (keeps change.block.0 (inr low)).newest ∙ h.home lt change is;
+          (preserves change.block.0 (inr low)).newest ∙ h.home lt change is;
       home_barrier =
-          λ at block outside. leaves_kept old new block (Brought base log block)
-          (keeps block (beside_log log.blocks block outside)) (h.home_barrier at block outside);
+          λ at block outside. leaves_preserved old new block (Brought base log block)
+          (preserves block (outside_log log.blocks block outside)) (h.home_barrier at block outside);
       start = λ at. subst (IsStartBehind log log.installing) (sym start.newest) (h.start at);
       start_barrier =
-          λ at. leaves_kept old new START_BLOCK (IsStartBehind log log.installing) start (h.start_barrier at);
+          λ at. leaves_preserved old new START_BLOCK (IsStartBehind log log.installing) start (h.start_barrier at);
     }
 
 or_else_some : (a : Option Content) (c : Content) → or_else a (Some c) ≡ None → ⊥
@@ -128,18 +128,18 @@ home_written : (old new : Device) (base : Image) (log : Log) (change : LogChange
     → HasWritten old change.block.0 wrote r new → HomeAgrees old base log → HomeAgrees new base log
 home_written old new base log change wrote r lawful lt is same made h =
     let place = home_of log log.inst_step change lawful is in
-    let other : (block : ℕ) → block ≢ change.block.0 → Keeps old new block =
-    λ block differs. keeps_same old new block (made.others block differs) in
-    let start : Keeps old new START_BLOCK = other START_BLOCK (λ e. omega (arith, e, place.0)) in
+    let other : (block : ℕ) → block ≢ change.block.0 → PreservesContent old new block =
+    λ block differs. preserves_same old new block (made.others block differs) in
+    let start : PreservesContent old new START_BLOCK = other START_BLOCK (λ e. omega (arith, e, place.0)) in
     record {
       chosen = h.chosen;
       home = home;
       written = λ before block outside past content brought.
           (other block (λ e. not_past log change lawful lt is (subst (λ n. IsPast log n) e past))).newest
           ∙ h.written before block outside past content brought;
-      start = λ before. leaves_kept old new START_BLOCK (IsStartBehind log 0) start (h.start before);
+      start = λ before. leaves_preserved old new START_BLOCK (IsStartBehind log 0) start (h.start before);
       brought = λ later. absurd (omega arith);
-      raised_start = λ later. absurd (omega arith);
+      advanced_start = λ later. absurd (omega arith);
       newest_start = λ end. absurd (omega arith);
     }
   where
@@ -157,8 +157,8 @@ home_written old new base log change wrote r lawful lt is same made h =
       where
         go : (t : Bool) → nat_eq block change.block.0 ≡ t → LeavesOnly new block (Either base log block)
         go true e = it block (eqb-true block change.block.0 e) (h.home before block outside)
-        go false e = leaves_kept old new block (Either base log block)
-            (keeps_same old new block (made.others block (eqb-false block change.block.0 e)))
+        go false e = leaves_preserved old new block (Either base log block)
+            (preserves_same old new block (made.others block (eqb-false block change.block.0 e)))
             (h.home before block outside)
 
 -- the write of the raised start
@@ -172,12 +172,12 @@ start_written old new base log wrote r at made start h = record {
   written = λ before. absurd (omega arith);
   start = λ before. absurd (omega arith);
   brought = λ later block outside.
-      leaves_kept old new block (Brought base log block)
-      (keeps_same old new block (made.others block (apart block outside)))
+      leaves_preserved old new block (Brought base log block)
+      (preserves_same old new block (made.others block (apart block outside)))
       (h.brought later block outside);
-  raised_start =
-      λ later. leaves_written old new START_BLOCK wrote r (Raised log) made (inr start)
-      (h.raised_start later);
+  advanced_start =
+      λ later. leaves_written old new START_BLOCK wrote r (Advanced log) made (inr start)
+      (h.advanced_start later);
   newest_start = λ end. absurd (omega arith);
 }
   where
@@ -218,7 +218,7 @@ homes_called old new base log io r lawful next made h =
     go (step_of log.inst_step log.installing lawful.inst_step)
   where
     settled : io.call ≡ Barrier Home → HomeAgrees new base log
-    settled e = homes_kept old new base log (λ block outside. keeps_barrier old new io Home r e made block) h
+    settled e = homes_preserved old new base log (λ block outside. preserves_barrier old new io Home r e made block) h
 
     go : Step log.inst_step log.installing → HomeAgrees new base log
     go (writes lt) =
@@ -235,20 +235,20 @@ homes_called old new base log io r lawful next made h =
 
 -- the log's own blocks are kept by it
 pub own_spared : (old new : Device) (log : Log) (io : Io) (r : Result Unit Failed) → IsLawful log
-    → IsNextInstCall log io → HasMade old io r new → KeepsOwn old new
+    → IsNextInstCall log io → HasMade old io r new → PreservesOwn old new
 own_spared old new log io r lawful next made at low high =
     go (step_of log.inst_step log.installing lawful.inst_step)
   where
-    same : (other : BlockNo) → START_BLOCK ≤ other.0 → io.call ≡ Write other → Keeps old new at
+    same : (other : BlockNo) → START_BLOCK ≤ other.0 → io.call ≡ Write other → PreservesContent old new at
     same other behind e =
-        keeps_same old new at ((made_write old new io other r e made).others at (λ is. omega (arith, is)))
+        preserves_same old new at ((made_write old new io other r e made).others at (λ is. omega (arith, is)))
 
-    go : Step log.inst_step log.installing → Keeps old new at
+    go : Step log.inst_step log.installing → PreservesContent old new at
     go (writes lt) = let body = body_of log io lawful next lt in
         same body.change.block (omega (arith, body.home.0)) body.call
-    go (settles step) = keeps_barrier old new io Home r (next.home_barrier step) made at
+    go (settles step) = preserves_barrier old new io Home r (next.home_barrier step) made at
     go (tells step) = same (record { 0 = START_BLOCK }) (omega arith) (next.start step).0
-    go (ends step) = keeps_barrier old new io Home r (next.start_barrier step) made at
+    go (ends step) = preserves_barrier old new io Home r (next.start_barrier step) made at
 
 -- a block that isn't the log's own lies on the side of the homes
 pub on_home : (blocks block : ℕ) → IsOutside blocks block → is_on Home block ≡ true
@@ -306,8 +306,8 @@ inst_made old new base log io lawful next made h = record {
               | inl old_one ↦ old_one ∙ ap (λ o. content_or o (base block)) (sym e)
               | inr it ↦ absurd (let no : None ≡ Some content = sym e ∙ it in cc)
             ] in
-            leaves_kept old new block (Brought base log block)
-            (keeps_settled old new Home (Ok tt) block settled)
+            leaves_preserved old new block (Brought base log block)
+            (preserves_settled old new Home (Ok tt) block settled)
             (λ content there. same content (h.home (omega arith) block outside content there))
 
     start : log.inst_step ≡ log.installing + 1

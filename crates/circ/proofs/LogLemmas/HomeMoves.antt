@@ -18,7 +18,7 @@ use Rattle.circ.specs.Log.Calls.{HasMadeInstCall, home_after}
 use Rattle.circ.proofs.LogLemmas.Lists.{slice_get-take, slice_get-into_take}
 use Rattle.circ.proofs.LogLemmas.LogMoves.{with_tail}
 use Rattle.circ.proofs.LogLemmas.Newest.{newest_of-drop}
-use Rattle.circ.proofs.LogLemmas.NextHome.{next_within, next_keeps, next_newest}
+use Rattle.circ.proofs.LogLemmas.NextHome.{next_within, next_preserves, next_newest}
 use Rattle.circ.proofs.LogLemmas.Steps.{change_at}
 
 -- what the logger does beside it
@@ -42,7 +42,7 @@ homes_aside d base log logged taken log_step log_out inst_out broken h =
       written = h.written;
       start = h.start;
       brought = h.brought;
-      raised_start = h.raised_start;
+      advanced_start = h.advanced_start;
       newest_start = h.newest_start;
     }
 
@@ -71,18 +71,18 @@ next_inst_aside io log logged taken log_step log_out inst_out broken h =
 
 -- other changes behind the logger's group
 module _ (d : Device) (base : Image) (log : Log) (places : ℕ) (changes : List LogChange) (lawful : IsLawful log)
-    (kept : take (log.logged + log.taken) changes ≡ take (log.logged + log.taken) log.changes)
+    (is_preserved : take (log.logged + log.taken) changes ≡ take (log.logged + log.taken) log.changes)
   where
     same : take log.installing log.changes ≡ take log.installing changes
     same =
         let within : log.installing ≤ log.logged + log.taken = omega (arith, lawful.installing) in
         sym (take-take log.installing (log.logged + log.taken) log.changes within)
-        ∙ ap (take log.installing) (sym kept)
+        ∙ ap (take log.installing) (sym is_preserved)
         ∙ take-take log.installing (log.logged + log.taken) changes within
 
-    front : (change : LogChange) → log.inst_step < log.installing
+    leading : (change : LogChange) → log.inst_step < log.installing
         → slice_get changes log.inst_step ≡ Some change → slice_get log.changes log.inst_step ≡ Some change
-    front change lt is =
+    leading change lt is =
         slice_get-take log.changes log.installing log.inst_step change
         (ap (λ (xs : List LogChange). slice_get xs log.inst_step) same
         ∙ slice_get-into_take changes log.installing log.inst_step change lt is)
@@ -90,7 +90,7 @@ module _ (d : Device) (base : Image) (log : Log) (places : ℕ) (changes : List 
     pub homes_appended : HomeAgrees d base log → HomeAgrees d base (with_tail log places changes)
     homes_appended h = record {
       chosen = λ lt change is. ap (λ xs. newest_of xs change.block.0) (sym same)
-          ∙ h.chosen lt change (front change lt is);
+          ∙ h.chosen lt change (leading change lt is);
       home = λ before block outside. subst
           (λ (xs : List LogChange). LeavesOnly d block (λ content. (content ≡ base block)
           ⊎ (newest_of xs block ≡ Some content))) same (h.home before block outside);
@@ -102,13 +102,13 @@ module _ (d : Device) (base : Image) (log : Log) (places : ℕ) (changes : List 
       brought = λ later block outside. subst
           (λ (xs : List LogChange). LeavesOnly d block (λ content. content ≡ with_changes base xs block)) same
           (h.brought later block outside);
-      raised_start = h.raised_start;
+      advanced_start = h.advanced_start;
       newest_start = h.newest_start;
     }
 
     pub inst_made_appended : HasMadeInstCall d base log → HasMadeInstCall d base (with_tail log places changes)
     inst_made_appended h = record {
-      home = λ lt change is. h.home lt change (front change lt is);
+      home = λ lt change is. h.home lt change (leading change lt is);
       home_barrier =
           λ at block outside. subst
           (λ (xs : List LogChange). LeavesOnly d block (λ content. content ≡ with_changes base xs block)) same
@@ -122,7 +122,7 @@ module _ (d : Device) (base : Image) (log : Log) (places : ℕ) (changes : List 
     next_inst_appended io h = record {
       beginning = h.beginning;
       step = h.step;
-      home = λ lt change is. h.home lt change (front change lt is);
+      home = λ lt change is. h.home lt change (leading change lt is);
       home_barrier = h.home_barrier;
       start = h.start;
       start_barrier = h.start_barrier;
@@ -154,10 +154,10 @@ homes_begun d base log lawful idle h =
           ];
       written = λ before block outside past content it.
           absurd (let no : None ≡ Some content = sym past
-          ∙ next_keeps log.changes log.logged 0 within (omega arith) block ∙ it in cc);
+          ∙ next_preserves log.changes log.logged 0 within (omega arith) block ∙ it in cc);
       start = λ before. h.start ready;
       brought = λ later. absurd (omega arith);
-      raised_start = λ later. absurd (omega arith);
+      advanced_start = λ later. absurd (omega arith);
       newest_start = λ end. absurd (omega arith);
     }
 
@@ -191,11 +191,11 @@ one_home d base log lawful lt h made =
           (omega arith) change less is;
       home = λ before. h.home (omega arith);
       written = λ before block outside past content it. written block outside
-          (sym (next_keeps log.changes log.installing (log.inst_step + 1) within (omega arith) block)
+          (sym (next_preserves log.changes log.installing (log.inst_step + 1) within (omega arith) block)
           ∙ past) content it;
       start = λ before. h.start (omega arith);
       brought = λ later. absurd (omega arith);
-      raised_start = λ later. absurd (omega arith);
+      advanced_start = λ later. absurd (omega arith);
       newest_start = λ end. absurd (omega arith);
     }
   where
@@ -248,10 +248,10 @@ one_step d base log low high h made = record {
       elim (cases_lt log.installing log.inst_step) as (λ _. LeavesOnly d block (λ content. content
       ≡ with_changes base (take log.installing log.changes) block))
       [ inl past ↦ h.brought past block outside | inr now ↦ made.home_barrier (omega arith) block outside ];
-  raised_start = λ later content there.
+  advanced_start = λ later content there.
       elim (cases_lt log.installing log.inst_step) as (λ _. IsStartBehind log 0 content
       ⊎ IsStartBehind log log.installing content)
-      [ inl past ↦ h.raised_start past content there | inr now ↦ inl (h.start now content there) ];
+      [ inl past ↦ h.advanced_start past content there | inr now ↦ inl (h.start now content there) ];
   newest_start = λ end. made.start (omega arith);
 }
 
@@ -265,7 +265,7 @@ all_home d base log end h made = record {
   written = λ before block outside past content it. absurd (let no : None ≡ Some content = it in cc);
   start = λ before content there. made.start_barrier end content there ∙ (omega arith);
   brought = λ later. absurd (omega (arith, later));
-  raised_start = λ later. absurd (omega (arith, later));
+  advanced_start = λ later. absurd (omega (arith, later));
   newest_start = λ other. absurd (omega (arith, other));
 }
 

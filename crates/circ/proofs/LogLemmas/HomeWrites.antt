@@ -17,14 +17,14 @@ use Rattle.circ.specs.Log.Overlay.{content_or}
 use Rattle.circ.specs.Log.Effects.{brought_home}
 use Rattle.circ.specs.Log.Law.{LeavesOnly, IsOutside, IsStartBehind, HomeAgrees, Agrees, with_changes}
 use Rattle.circ.specs.Log.Law.{with_home, IsBoundary}
-use Rattle.circ.specs.Log.Calls.{Pending, idle, out, was_made, HasMadeInstCall, IsInstallerAt, AgreesBeside}
+use Rattle.circ.specs.Log.Calls.{Pending, idle, out, was_made, HasMadeInstCall, IsInstallerAt, AgreesWithPending}
 use Rattle.circ.proofs.LogLemmas.Newest.{newest_of-append}
 use Rattle.circ.proofs.LogLemmas.Boundary.{crash_boundary}
-use Rattle.circ.proofs.LogLemmas.Contents.{Keeps, keeps_same, keeps_settled, leaves_kept, leaves_newest}
+use Rattle.circ.proofs.LogLemmas.Contents.{PreservesContent, preserves_same, preserves_settled, leaves_preserved, leaves_newest}
 use Rattle.circ.proofs.LogLemmas.Contents.{newest_written, one_member}
-use Rattle.circ.proofs.LogLemmas.LogCalls.{KeepsOwn, own_kept, log_made_kept}
+use Rattle.circ.proofs.LogLemmas.LogCalls.{PreservesOwn, own_preserved, log_made_preserved}
 use Rattle.circ.proofs.LogLemmas.HomeCalls.{on_home}
-use Rattle.circ.proofs.LogLemmas.Beside.{logger_as}
+use Rattle.circ.proofs.LogLemmas.Unaffected.{logger_as}
 
 neither : (a b : Option Content) → or_else a b ≡ None → b ≡ None
 neither (Some a) b h = absurd (cc)
@@ -40,8 +40,8 @@ not_brought log block h =
 -- a disk on which a block is another, and the others are as they were
 module _ (old new : Device) (base : Image) (log : Log) (block : ℕ) (content : Content) (lawful : IsLawful log)
     (outside : IsOutside log.blocks block) (none : newest_in_log log block ≡ None)
-    (size : new.size ≡ old.size) (keeps : (other : ℕ) → other ≢ block
-    → Keeps old new other) (only : LeavesOnly new block (λ c. c ≡ content)) where
+    (size : new.size ≡ old.size) (preserves : (other : ℕ) → other ≢ block
+    → PreservesContent old new other) (only : LeavesOnly new block (λ c. c ≡ content)) where
   abbrev base' : Image
   base' = with_home base block content
 
@@ -55,11 +55,11 @@ module _ (old new : Device) (base : Image) (log : Log) (block : ℕ) (content : 
   not_own other low high e =
       elim (outside.1) as (λ _. ⊥) [ inl below ↦ omega (arith, e) | inr above ↦ omega (arith, e) ]
 
-  keeps_own : KeepsOwn old new
-  keeps_own other low high = keeps other (not_own other low (omega arith))
+  preserves_own : PreservesOwn old new
+  preserves_own other low high = preserves other (not_own other low (omega arith))
 
-  keeps_start : Keeps old new START_BLOCK
-  keeps_start = keeps START_BLOCK (not_own START_BLOCK (omega arith) (omega arith))
+  preserves_start : PreservesContent old new START_BLOCK
+  preserves_start = preserves START_BLOCK (not_own START_BLOCK (omega arith) (omega arith))
 
   abbrev Either : Image → ℕ → Content → Type 0
   Either b other c = (c ≡ b other) ⊎ (brought_home log other ≡ Some c)
@@ -78,7 +78,7 @@ module _ (old new : Device) (base : Image) (log : Log) (block : ℕ) (content : 
   home_at_other : (other : ℕ) → other ≢ block → LeavesOnly old other (Either base other)
       → LeavesOnly new other (Either base' other)
   home_at_other other differs h c there =
-      elim (h c ((keeps other differs).within c there)) as (λ _. Either base' other c)
+      elim (h c ((preserves other differs).within c there)) as (λ _. Either base' other c)
       [ inl is ↦ inl (is ∙ sym (at_other other differs)) | inr is ↦ inr is ]
 
   brought_at_block : (other : ℕ) → other ≡ block → LeavesOnly new other (Brought base' other)
@@ -90,7 +90,7 @@ module _ (old new : Device) (base : Image) (log : Log) (block : ℕ) (content : 
   brought_at_other : (other : ℕ) → other ≢ block → LeavesOnly old other (Brought base other)
       → LeavesOnly new other (Brought base' other)
   brought_at_other other differs h c there =
-      h c ((keeps other differs).within c there)
+      h c ((preserves other differs).within c there)
       ∙ ap (λ b. content_or (brought_home log other) b) (sym (at_other other differs))
 
   home_at : (other : ℕ) → LeavesOnly old other (Either base other) → LeavesOnly new other (Either base' other)
@@ -112,21 +112,21 @@ module _ (old new : Device) (base : Image) (log : Log) (block : ℕ) (content : 
   homes_with h = record {
     chosen = h.chosen;
     home = λ before other at. home_at other (h.home before other at);
-    written = λ before other at past c is. (keeps other (not_it other c is)).newest
+    written = λ before other at past c is. (preserves other (not_it other c is)).newest
         ∙ h.written before other at past c is;
-    start = λ before. leaves_kept old new START_BLOCK (IsStartBehind log 0) keeps_start (h.start before);
+    start = λ before. leaves_preserved old new START_BLOCK (IsStartBehind log 0) preserves_start (h.start before);
     brought = λ later other at. brought_at other (h.brought later other at);
-    raised_start =
-        λ later. leaves_kept old new START_BLOCK (λ c. IsStartBehind log 0 c
-        ⊎ IsStartBehind log log.installing c) keeps_start (h.raised_start later);
+    advanced_start =
+        λ later. leaves_preserved old new START_BLOCK (λ c. IsStartBehind log 0 c
+        ⊎ IsStartBehind log log.installing c) preserves_start (h.advanced_start later);
     newest_start =
-        λ end. subst (IsStartBehind log log.installing) (sym keeps_start.newest) (h.newest_start end);
+        λ end. subst (IsStartBehind log log.installing) (sym preserves_start.newest) (h.newest_start end);
   }
 
   pub agrees_with : Agrees old base log → Agrees new base' log
   agrees_with a = record {
     size = size ∙ a.size;
-    own = own_kept old new log keeps_own a.own;
+    own = own_preserved old new log preserves_own a.own;
     homes = homes_with a.homes;
   }
 
@@ -137,12 +137,12 @@ module _ (old new : Device) (base : Image) (log : Log) (block : ℕ) (content : 
 
   inst_made_with : HomeAgrees old base log → HasMadeInstCall old base log → HasMadeInstCall new base' log
   inst_made_with a h = record {
-    home = λ lt change is. (keeps change.block.0 (not_change change lt (a.chosen lt change is))).newest
+    home = λ lt change is. (preserves change.block.0 (not_change change lt (a.chosen lt change is))).newest
         ∙ h.home lt change is;
     home_barrier = λ at other there. brought_at other (h.home_barrier at other there);
-    start = λ at. subst (IsStartBehind log log.installing) (sym keeps_start.newest) (h.start at);
+    start = λ at. subst (IsStartBehind log log.installing) (sym preserves_start.newest) (h.start at);
     start_barrier =
-        λ at. leaves_kept old new START_BLOCK (IsStartBehind log log.installing) keeps_start
+        λ at. leaves_preserved old new START_BLOCK (IsStartBehind log log.installing) preserves_start
         (h.start_barrier at);
   }
 
@@ -153,10 +153,10 @@ module _ (old new : Device) (base : Image) (log : Log) (block : ℕ) (content : 
   installer_with (was_made io (Ok u)) a h = (h.0, h.1, inst_made_with a h.2)
   installer_with (was_made io (Err u)) a h = h
 
-  pub stands_with : (p q : Pending) → AgreesBeside old base log p q → AgreesBeside new base' log p q
+  pub stands_with : (p q : Pending) → AgreesWithPending old base log p q → AgreesWithPending new base' log p q
   stands_with p q s = record {
     agrees = agrees_with s.agrees;
-    logger = logger_as old new log log p refl (λ io h. h) (log_made_kept old new log keeps_own) s.logger;
+    logger = logger_as old new log log p refl (λ io h. h) (log_made_preserved old new log preserves_own) s.logger;
     installer = installer_with q s.agrees.homes s.installer;
   }
 
@@ -165,16 +165,16 @@ pub home_settled : (old middle new : Device) (base : Image) (log : Log) (block :
     (p q : Pending)
     → IsLawful log → IsOutside log.blocks block → newest_in_log log block ≡ None
     → HasWritten old block content (Ok tt) middle → HasSettled middle Home (Ok tt) new
-    → AgreesBeside old base log p q → AgreesBeside new (with_home base block content) log p q
+    → AgreesWithPending old base log p q → AgreesWithPending new (with_home base block content) log p q
 home_settled old middle new base log block content p q lawful outside none wrote settled s =
     stands_with old new base log block content lawful outside none (settled.later.size ∙ wrote.later.size)
-    (λ other differs. both other (keeps_same old middle other (wrote.others other differs))
-    (keeps_settled middle new Home (Ok tt) other settled))
+    (λ other differs. both other (preserves_same old middle other (wrote.others other differs))
+    (preserves_settled middle new Home (Ok tt) other settled))
     (leaves_newest middle new Home block (λ c. c ≡ content) settled (on_home log.blocks block outside)
     (newest_written old middle block content wrote))
     p q s
   where
-    both : (other : ℕ) → Keeps old middle other → Keeps middle new other → Keeps old new other
+    both : (other : ℕ) → PreservesContent old middle other → PreservesContent middle new other → PreservesContent old new other
     both other one two = record {
       within = λ c there. one.within c (two.within c there);
       newest = two.newest ∙ one.newest;
@@ -233,21 +233,21 @@ home_written old new base log block content r image lawful outside none wrote a 
         agrees : Agrees (only_this old block content) (with_home base block content) log
         agrees =
             agrees_with old (only_this old block content) base log block content lawful outside none refl
-            (λ other differs. keeps_same old (only_this old block content) other
+            (λ other differs. preserves_same old (only_this old block content) other
             (others_there old block content other differs))
             (λ c there. sym
             (one_member content c
             (subst (λ (xs : List Content). Contains xs c) (this_there old block content) there))) a
 
-        alone : Contains (current (only_this old block content) block) (image block)
-        alone = subst (λ (xs : List Content). Contains xs (image block)) (sym (this_there old block content))
+        only_content : Contains (current (only_this old block content) block) (image block)
+        only_content = subst (λ (xs : List Content). Contains xs (image block)) (sym (this_there old block content))
             (0, omega arith, sym is)
 
         at : (t : Bool) (other : ℕ) → nat_eq other block ≡ t → other < old.size
             → Contains (current (only_this old block content) other) (image other)
         at true other e lt =
             subst (λ n. Contains (current (only_this old block content) n) (image n))
-            (sym (eqb-true other block e)) alone
+            (sym (eqb-true other block e)) only_content
         at false other e lt =
             subst (λ (xs : List Content). Contains xs (image other))
             (sym (others_there old block content other (eqb-false other block e)))

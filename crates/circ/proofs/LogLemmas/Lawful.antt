@@ -13,7 +13,7 @@ use Rattle.circ.proofs.LogLemmas.Places.{rising-append, rising-group, rising-dro
 use Rattle.circ.specs.Log.Log.{Log, AreOnce, IsCommitted, IsLawful, IsHomeOn, IsRising, blocks_of}
 use Rattle.circ.specs.Log.Log.{changed_blocks, changes_of, is_among, opened, tail_after, tail_blocks}
 use Rattle.circ.specs.Log.Room.{HasPlaces, absorbed, fresh, tail_with, with_group}
-use Rattle.circ.proofs.LogLemmas.Absorption.{blocks-fresh, committed_tail, count_is, front_length, once-with_new}
+use Rattle.circ.proofs.LogLemmas.Absorption.{blocks-fresh, committed_tail, count_is, leading_length, once-with_new}
 use Rattle.circ.proofs.LogLemmas.Absorption.{tail_is}
 
 pub length-changes_of : (place : ℕ) (group : List (BlockNo × Content))
@@ -42,15 +42,15 @@ homes_of_group blocks place (change ∷ group) h =
     (homes_of_group blocks place group (All-tail (IsHomeOn blocks) change.0 (blocks_of group) h))
 
 -- what is taken in stands at the places where it was
-rising-absorbed : (front tail : List LogChange) (places : ℕ) (group : List (BlockNo × Content))
-    → IsRising (front ++ tail) places → IsRising (front ++ map (absorbed group) tail) places
+rising-absorbed : (leading tail : List LogChange) (places : ℕ) (group : List (BlockNo × Content))
+    → IsRising (leading ++ tail) places → IsRising (leading ++ map (absorbed group) tail) places
 rising-absorbed [] [] places group h = h
 rising-absorbed [] (x ∷ []) places group h = h
 rising-absorbed [] (x ∷ y ∷ tail) places group h = (h.0, rising-absorbed [] (y ∷ tail) places group h.1)
 rising-absorbed (x ∷ []) [] places group h = h
 rising-absorbed (x ∷ []) (y ∷ tail) places group h = (h.0, rising-absorbed [] (y ∷ tail) places group h.1)
-rising-absorbed (x ∷ y ∷ front) tail places group h =
-    (h.0, rising-absorbed (y ∷ front) tail places group h.1)
+rising-absorbed (x ∷ y ∷ leading) tail places group h =
+    (h.0, rising-absorbed (y ∷ leading) tail places group h.1)
 
 homes_of_fresh : (blocks place : ℕ) (tail : List BlockNo) (group : List (BlockNo × Content))
     → All (IsHomeOn blocks) (blocks_of group)
@@ -60,8 +60,8 @@ homes_of_fresh blocks place tail group h =
     (All-filter (λ block. not (is_among block tail)) (IsHomeOn blocks) (blocks_of group) h))
 
 module _ (log : Log) (group : List (BlockNo × Content)) (h : IsLawful log) where
-  abbrev front : List LogChange
-  front = take (log.logged + log.taken) log.changes
+  abbrev leading : List LogChange
+  leading = take (log.logged + log.taken) log.changes
 
   abbrev tail : List LogChange
   tail = drop (log.logged + log.taken) log.changes
@@ -74,12 +74,12 @@ module _ (log : Log) (group : List (BlockNo × Content)) (h : IsLawful log) wher
       → IsLawful (with_group log group)
   lawful_with_group room fits homes once =
       let n = count_is log group h in
-      let m = front_length log group h in
+      let m = leading_length log group h in
       let more : List LogChange = changes_of (log.places + 1) (fresh (changed_blocks tail) group) in
-      let within : log.logged ≤ length front = omega (arith, m) in
-      let all : length (front ++ tail_with tail (log.places + 1) group)
-      ≡ length front + length (tail_with tail (log.places + 1) group) =
-      length-append front (tail_with tail (log.places + 1) group) in
+      let within : log.logged ≤ length leading = omega (arith, m) in
+      let all : length (leading ++ tail_with tail (log.places + 1) group)
+      ≡ length leading + length (tail_with tail (log.places + 1) group) =
+      length-append leading (tail_with tail (log.places + 1) group) in
       record {
         disk = h.disk;
         taken_within = omega (arith, m, all);
@@ -94,18 +94,18 @@ module _ (log : Log) (group : List (BlockNo × Content)) (h : IsLawful log) wher
         log_begun = h.log_begun;
         inst_begun = h.inst_begun;
         places = room.place;
-        homes = All-append OnDisk front (tail_with tail (log.places + 1) group)
+        homes = All-append OnDisk leading (tail_with tail (log.places + 1) group)
             (All-take OnDisk (log.logged + log.taken) log.changes h.homes)
             (All-append OnDisk (map (absorbed group) tail) more
             (All-map OnDisk (absorbed group) tail (All-drop OnDisk (log.logged + log.taken) log.changes h.homes))
             (homes_of_fresh log.blocks (log.places + 1) (changed_blocks tail) group homes));
-        rising = subst (λ xs. IsRising xs (log.places + 1)) (append_assoc front (map (absorbed group) tail) more)
-            (rising-append (front ++ map (absorbed group) tail) log.places (fresh (changed_blocks tail) group)
-            (rising-absorbed front tail log.places group (subst (λ xs. IsRising xs log.places)
+        rising = subst (λ xs. IsRising xs (log.places + 1)) (append_assoc leading (map (absorbed group) tail) more)
+            (rising-append (leading ++ map (absorbed group) tail) log.places (fresh (changed_blocks tail) group)
+            (rising-absorbed leading tail log.places group (subst (λ xs. IsRising xs log.places)
             (sym (take-append-drop (log.logged + log.taken) log.changes)) h.rising)));
-        committed = subst (All IsCommitted) (sym (drop-append-le log.logged front
+        committed = subst (All IsCommitted) (sym (drop-append-le log.logged leading
             (tail_with tail (log.places + 1) group) within))
-            (All-append IsCommitted (drop log.logged front) (tail_with tail (log.places + 1) group)
+            (All-append IsCommitted (drop log.logged leading) (tail_with tail (log.places + 1) group)
             (subst (All IsCommitted) (sym (drop-take log.logged log.taken log.changes))
             (All-take IsCommitted log.taken (drop log.logged log.changes) h.committed))
             (All-append IsCommitted (map (absorbed group) tail) more

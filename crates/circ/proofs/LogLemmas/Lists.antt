@@ -34,9 +34,9 @@ slice_get-drop xs n k x h =
     slice_get_read xs (length xs) (n + k) x refl b
     (sym (sym (get_or-drop n xs k x) ∙ get_or_from_slice_get (drop n xs) k x x h))
 
-pub slice_get-front : {X : Type 0} (xs ys : List X) (k : ℕ) (x : X) → k < length xs
+pub slice_get-leading : {X : Type 0} (xs ys : List X) (k : ℕ) (x : X) → k < length xs
     → slice_get (xs ++ ys) k ≡ Some x → slice_get xs k ≡ Some x
-slice_get-front xs ys k x lt h =
+slice_get-leading xs ys k x lt h =
     slice_get_read xs (length xs) k x refl lt (sym (sym (get_or_append_left xs ys x k lt)
     ∙ get_or_from_slice_get (xs ++ ys) k x x h))
 

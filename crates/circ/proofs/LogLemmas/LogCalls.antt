@@ -17,54 +17,54 @@ use Rattle.circ.specs.Log.Log.{Log, IsLawful, log_end}
 use Rattle.circ.specs.Log.Logger.{slot_block, IsHeader, IsNextLogCall}
 use Rattle.circ.specs.Log.Law.{LeavesOnly, HoldsSlots, IsHeaderOf, LogAgrees}
 use Rattle.circ.specs.Log.Calls.{HasMadeLogCall}
-use Rattle.circ.proofs.LogLemmas.Contents.{Keeps, keeps_same, keeps_settled, leaves_kept, leaves_newest}
+use Rattle.circ.proofs.LogLemmas.Contents.{PreservesContent, preserves_same, preserves_settled, leaves_preserved, leaves_newest}
 use Rattle.circ.proofs.LogLemmas.Contents.{leaves_written, newest_written}
 use Rattle.circ.proofs.LogLemmas.Lists.{slice_get-into_take}
 use Rattle.circ.proofs.LogLemmas.Steps.{Step, writes, settles, tells, ends, step_of, made_write, made_barrier}
 use Rattle.circ.proofs.LogLemmas.Steps.{slots_differ, change_at}
 
 -- the log's own blocks are kept
-abbrev pub KeepsOwn : Device → Device → Type 0
-KeepsOwn old new = (block : ℕ) → LOG_HEADER_BLOCK ≤ block → block < START_BLOCK → Keeps old new block
+abbrev pub PreservesOwn : Device → Device → Type 0
+PreservesOwn old new = (block : ℕ) → LOG_HEADER_BLOCK ≤ block → block < START_BLOCK → PreservesContent old new block
 
-slot_kept : (old new : Device) (position : ℕ) → KeepsOwn old new → Keeps old new (slot_block position)
-slot_kept old new position keeps = keeps (slot_block position) (omega arith) (omega arith)
+slot_preserved : (old new : Device) (position : ℕ) → PreservesOwn old new → PreservesContent old new (slot_block position)
+slot_preserved old new position preserves = preserves (slot_block position) (omega arith) (omega arith)
 
-header_kept : (old new : Device) → KeepsOwn old new → Keeps old new LOG_HEADER_BLOCK
-header_kept old new keeps = keeps LOG_HEADER_BLOCK (omega arith) (omega arith)
+header_preserved : (old new : Device) → PreservesOwn old new → PreservesContent old new LOG_HEADER_BLOCK
+header_preserved old new preserves = preserves LOG_HEADER_BLOCK (omega arith) (omega arith)
 
-holds_kept : (old new : Device) (log : Log) (count : ℕ) → KeepsOwn old new → HoldsSlots old log count
+holds_preserved : (old new : Device) (log : Log) (count : ℕ) → PreservesOwn old new → HoldsSlots old log count
     → HoldsSlots new log count
-holds_kept old new log count keeps h k lt change is =
-    leaves_kept old new (slot_block (log.start + k)) (λ content. content ≡ change.content)
-    (slot_kept old new (log.start + k) keeps) (h k lt change is)
+holds_preserved old new log count preserves h k lt change is =
+    leaves_preserved old new (slot_block (log.start + k)) (λ content. content ≡ change.content)
+    (slot_preserved old new (log.start + k) preserves) (h k lt change is)
 
-pub own_kept : (old new : Device) (log : Log) → KeepsOwn old new → LogAgrees old log → LogAgrees new log
-own_kept old new log keeps h =
-    let head = header_kept old new keeps in
+pub own_preserved : (old new : Device) (log : Log) → PreservesOwn old new → LogAgrees old log → LogAgrees new log
+own_preserved old new log preserves h =
+    let head = header_preserved old new preserves in
     record {
-      slots = holds_kept old new log log.logged keeps h.slots;
-      written = λ k lt within change is. (slot_kept old new (log.start + (log.logged + k)) keeps).newest
+      slots = holds_preserved old new log log.logged preserves h.slots;
+      written = λ k lt within change is. (slot_preserved old new (log.start + (log.logged + k)) preserves).newest
           ∙ h.written k lt within change is;
-      group_slots = λ at. holds_kept old new log (log.logged + log.taken) keeps (h.group_slots at);
-      header = λ at. leaves_kept old new LOG_HEADER_BLOCK (IsHeaderOf log log.logged) head (h.header at);
-      group_header = λ at. leaves_kept old new LOG_HEADER_BLOCK (λ content. IsHeaderOf log log.logged content
+      group_slots = λ at. holds_preserved old new log (log.logged + log.taken) preserves (h.group_slots at);
+      header = λ at. leaves_preserved old new LOG_HEADER_BLOCK (IsHeaderOf log log.logged) head (h.header at);
+      group_header = λ at. leaves_preserved old new LOG_HEADER_BLOCK (λ content. IsHeaderOf log log.logged content
           ⊎ IsHeaderOf log (log.logged + log.taken) content) head (h.group_header at);
       newest_header =
           λ at. subst (IsHeaderOf log (log.logged + log.taken)) (sym head.newest) (h.newest_header at);
     }
 
-pub log_made_kept : (old new : Device) (log : Log) → KeepsOwn old new → HasMadeLogCall old log
+pub log_made_preserved : (old new : Device) (log : Log) → PreservesOwn old new → HasMadeLogCall old log
     → HasMadeLogCall new log
-log_made_kept old new log keeps h =
-    let head = header_kept old new keeps in
+log_made_preserved old new log preserves h =
+    let head = header_preserved old new preserves in
     record {
-      body = λ lt change is. (slot_kept old new (log.start + (log.logged + log.log_step)) keeps).newest
+      body = λ lt change is. (slot_preserved old new (log.start + (log.logged + log.log_step)) preserves).newest
           ∙ h.body lt change is;
-      body_barrier = λ at. holds_kept old new log (log.logged + log.taken) keeps (h.body_barrier at);
+      body_barrier = λ at. holds_preserved old new log (log.logged + log.taken) preserves (h.body_barrier at);
       header = λ at. subst (IsHeaderOf log (log.logged + log.taken)) (sym head.newest) (h.header at);
       header_barrier =
-          λ at. leaves_kept old new LOG_HEADER_BLOCK (IsHeaderOf log (log.logged + log.taken)) head
+          λ at. leaves_preserved old new LOG_HEADER_BLOCK (IsHeaderOf log (log.logged + log.taken)) head
           (h.header_barrier at);
     }
 
@@ -74,19 +74,19 @@ slot_written : (old new : Device) (log : Log) (wrote : Content) (r : Result Unit
     → HasWritten old (slot_block (log.start + (log.logged + log.log_step))) wrote r new → LogAgrees old log
     → LogAgrees new log
 slot_written old new log wrote r lawful lt made h =
-    let other : (k : ℕ) → k < log.logged + log.log_step → Keeps old new (slot_block (log.start + k)) =
-    λ k less. keeps_same old new (slot_block (log.start + k))
+    let other : (k : ℕ) → k < log.logged + log.log_step → PreservesContent old new (slot_block (log.start + k)) =
+    λ k less. preserves_same old new (slot_block (log.start + k))
     (made.others (slot_block (log.start + k))
     (slots_differ log.start k (log.logged + log.log_step) less (omega (arith, lawful.slots)))) in
-    let head : Keeps old new LOG_HEADER_BLOCK =
-    keeps_same old new LOG_HEADER_BLOCK (made.others LOG_HEADER_BLOCK (λ e. omega (arith, e))) in
+    let head : PreservesContent old new LOG_HEADER_BLOCK =
+    preserves_same old new LOG_HEADER_BLOCK (made.others LOG_HEADER_BLOCK (λ e. omega (arith, e))) in
     record {
-      slots = λ k less change is. leaves_kept old new (slot_block (log.start + k)) (λ content. content
+      slots = λ k less change is. leaves_preserved old new (slot_block (log.start + k)) (λ content. content
           ≡ change.content) (other k (omega arith)) (h.slots k less change is);
       written = λ k less within change is. (other (log.logged + k) (omega arith)).newest
           ∙ h.written k less within change is;
       group_slots = λ at. absurd (omega arith);
-      header = λ at. leaves_kept old new LOG_HEADER_BLOCK (IsHeaderOf log log.logged) head (h.header at);
+      header = λ at. leaves_preserved old new LOG_HEADER_BLOCK (IsHeaderOf log log.logged) head (h.header at);
       group_header = λ at. absurd (omega arith);
       newest_header = λ at. absurd (omega arith);
     }
@@ -97,11 +97,11 @@ header_written : (old new : Device) (log : Log) (wrote : Content) (r : Result Un
     → HasWritten old LOG_HEADER_BLOCK wrote r new → IsHeaderOf log (log.logged + log.taken) wrote
     → LogAgrees old log → LogAgrees new log
 header_written old new log wrote r at made header h =
-    let other : (position : ℕ) → Keeps old new (slot_block position) =
-    λ position. keeps_same old new (slot_block position)
+    let other : (position : ℕ) → PreservesContent old new (slot_block position) =
+    λ position. preserves_same old new (slot_block position)
     (made.others (slot_block position) (λ e. omega (arith, e))) in
     let holds : (count : ℕ) → HoldsSlots old log count → HoldsSlots new log count =
-    λ count held k less change is. leaves_kept old new (slot_block (log.start + k)) (λ content. content
+    λ count held k less change is. leaves_preserved old new (slot_block (log.start + k)) (λ content. content
     ≡ change.content) (other (log.start + k)) (held k less change is) in
     record {
       slots = holds log.logged h.slots;
@@ -143,10 +143,10 @@ body_of log io lawful next lt =
     record { change = change; is = is; call = call.0 ∙ ap write e; content = call.1 }
 
 -- a barrier of a side keeps each block
-pub keeps_barrier : (old new : Device) (io : Io) (side : Side) (r : Result Unit Failed)
-    → io.call ≡ Barrier side → HasMade old io r new → (block : ℕ) → Keeps old new block
-keeps_barrier old new io side r e made block =
-    keeps_settled old new side r block (made_barrier old new io side r e made)
+pub preserves_barrier : (old new : Device) (io : Io) (side : Side) (r : Result Unit Failed)
+    → io.call ≡ Barrier side → HasMade old io r new → (block : ℕ) → PreservesContent old new block
+preserves_barrier old new io side r e made block =
+    preserves_settled old new side r block (made_barrier old new io side r e made)
 
 -- a call of the logger, made or failed
 pub own_called : (old new : Device) (log : Log) (io : Io) (r : Result Unit Failed) → IsLawful log
@@ -154,7 +154,7 @@ pub own_called : (old new : Device) (log : Log) (io : Io) (r : Result Unit Faile
 own_called old new log io r lawful next made h = go (step_of log.log_step log.taken lawful.log_step)
   where
     settled : io.call ≡ Barrier OnLog → LogAgrees new log
-    settled e = own_kept old new log (λ block low high. keeps_barrier old new io OnLog r e made block) h
+    settled e = own_preserved old new log (λ block low high. preserves_barrier old new io OnLog r e made block) h
 
     go : Step log.log_step log.taken → LogAgrees new log
     go (writes lt) =
@@ -173,28 +173,28 @@ own_called old new log io r lawful next made h = go (step_of log.log_step log.ta
 -- the other blocks are kept by it
 pub homes_spared : (old new : Device) (log : Log) (io : Io) (r : Result Unit Failed) → IsLawful log
     → IsNextLogCall log io → HasMade old io r new
-    → (block : ℕ) → (block < LOG_HEADER_BLOCK) ⊎ (START_BLOCK ≤ block) → Keeps old new block
+    → (block : ℕ) → (block < LOG_HEADER_BLOCK) ⊎ (START_BLOCK ≤ block) → PreservesContent old new block
 homes_spared old new log io r lawful next made at outside =
     go (step_of log.log_step log.taken lawful.log_step)
   where
-    same : (other : ℕ) → at ≢ other → HasWritten old other io.content r new → Keeps old new at
-    same other differs written = keeps_same old new at (written.others at differs)
+    same : (other : ℕ) → at ≢ other → HasWritten old other io.content r new → PreservesContent old new at
+    same other differs written = preserves_same old new at (written.others at differs)
 
     apart : (other : ℕ) → LOG_HEADER_BLOCK ≤ other → other < START_BLOCK → at ≢ other
     apart other low high e =
         elim outside as (λ _. ⊥) [ inl below ↦ omega (arith, e) | inr above ↦ omega (arith, e) ]
 
-    go : Step log.log_step log.taken → Keeps old new at
+    go : Step log.log_step log.taken → PreservesContent old new at
     go (writes lt) =
         let body = body_of log io lawful next lt in
         let slot : ℕ = slot_block (log.start + (log.logged + log.log_step)) in
         same slot (apart slot (omega arith) (omega arith))
         (made_write old new io (record { 0 = slot }) r body.call made)
-    go (settles step) = keeps_barrier old new io OnLog r (next.body_barrier step) made at
+    go (settles step) = preserves_barrier old new io OnLog r (next.body_barrier step) made at
     go (tells step) =
         same LOG_HEADER_BLOCK (apart LOG_HEADER_BLOCK (omega arith) (omega arith))
         (made_write old new io (record { 0 = LOG_HEADER_BLOCK }) r (next.header step).0 made)
-    go (ends step) = keeps_barrier old new io OnLog r (next.header_barrier step) made at
+    go (ends step) = preserves_barrier old new io OnLog r (next.header_barrier step) made at
 
 -- what the disk shows once it was made
 pub log_made : (old new : Device) (log : Log) (io : Io) → IsLawful log → IsNextLogCall log io
@@ -244,7 +244,7 @@ log_made old new log io lawful next made h = record {
         let P = λ (content : Content). content ≡ change.content in
         let settled = made_barrier old new io OnLog (Ok tt) (next.body_barrier at) made in
         elim (newest_of_slot at k lt change is) as (λ _. LeavesOnly new slot P) [
-          | inl before ↦ leaves_kept old new slot P (keeps_settled old new OnLog (Ok tt) slot settled)
+          | inl before ↦ leaves_preserved old new slot P (preserves_settled old new OnLog (Ok tt) slot settled)
               (h.slots k before change is)
           | inr written ↦ leaves_newest old new OnLog slot P settled (on (log.start + k)) written
         ]

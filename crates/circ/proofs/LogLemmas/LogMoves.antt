@@ -20,8 +20,8 @@ use Rattle.circ.proofs.LogLemmas.Lists.{slice_get-drop, slice_get-take, within-t
 use Rattle.circ.proofs.LogLemmas.Lists.{slice_get-into_take}
 
 -- what the installer does beside it
-abbrev pub beside : Log → ℕ → ℕ → Bool → Bool → Bool → Log
-beside log installing inst_step log_out inst_out broken = record log {
+abbrev pub with_installer_progress : Log → ℕ → ℕ → Bool → Bool → Bool → Log
+with_installer_progress log installing inst_step log_out inst_out broken = record log {
   installing = installing;
   inst_step = inst_step;
   log_out = log_out;
@@ -29,9 +29,9 @@ beside log installing inst_step log_out inst_out broken = record log {
   broken = broken;
 }
 
-pub own_beside : (d : Device) (log : Log) (installing inst_step : ℕ) (log_out inst_out broken : Bool)
-    → LogAgrees d log → LogAgrees d (beside log installing inst_step log_out inst_out broken)
-own_beside d log installing inst_step log_out inst_out broken h =
+pub own_unaffected : (d : Device) (log : Log) (installing inst_step : ℕ) (log_out inst_out broken : Bool)
+    → LogAgrees d log → LogAgrees d (with_installer_progress log installing inst_step log_out inst_out broken)
+own_unaffected d log installing inst_step log_out inst_out broken h =
     record {
       slots = h.slots;
       written = h.written;
@@ -41,18 +41,18 @@ own_beside d log installing inst_step log_out inst_out broken h =
       newest_header = h.newest_header;
     }
 
-pub log_made_beside : (d : Device) (log : Log) (installing inst_step : ℕ) (log_out inst_out broken : Bool)
-    → HasMadeLogCall d log → HasMadeLogCall d (beside log installing inst_step log_out inst_out broken)
-log_made_beside d log installing inst_step log_out inst_out broken h = record {
+pub log_made_unaffected : (d : Device) (log : Log) (installing inst_step : ℕ) (log_out inst_out broken : Bool)
+    → HasMadeLogCall d log → HasMadeLogCall d (with_installer_progress log installing inst_step log_out inst_out broken)
+log_made_unaffected d log installing inst_step log_out inst_out broken h = record {
   body = h.body;
   body_barrier = h.body_barrier;
   header = h.header;
   header_barrier = h.header_barrier;
 }
 
-pub next_log_beside : (io : Io) (log : Log) (installing inst_step : ℕ) (log_out inst_out broken : Bool)
-    → IsNextLogCall log io → IsNextLogCall (beside log installing inst_step log_out inst_out broken) io
-next_log_beside io log installing inst_step log_out inst_out broken h =
+pub next_log_unaffected : (io : Io) (log : Log) (installing inst_step : ℕ) (log_out inst_out broken : Bool)
+    → IsNextLogCall log io → IsNextLogCall (with_installer_progress log installing inst_step log_out inst_out broken) io
+next_log_unaffected io log installing inst_step log_out inst_out broken h =
     record {
       beginning = h.beginning;
       step = h.step;
@@ -82,7 +82,7 @@ own_out d log lawful h = go (nat_lt 0 log.taken) refl
           taken = (if has then log.taken else length log.changes - log.logged);
           log_out = true;
         })
-    go true e = own_beside d log log.installing log.inst_step true log.inst_out log.broken h
+    go true e = own_unaffected d log log.installing log.inst_step true log.inst_out log.broken h
     go false e = own_taken d log (length log.changes - log.logged)
         (lawful.log_idle (let le : log.taken ≤ 0 = ltb-false 0 log.taken e in omega arith)).0 h
 
@@ -156,50 +156,50 @@ with_tail log places changes = record log { places = places; changes = changes }
 -- other changes behind the logger's group
 module _ (d : Device) (log : Log) (places : ℕ) (changes : List LogChange) (lawful : IsLawful log)
     (same : take (log.logged + log.taken) changes ≡ take (log.logged + log.taken) log.changes) where
-  front : (k : ℕ) (change : LogChange) → k < log.logged + log.taken → slice_get changes k ≡ Some change
+  leading : (k : ℕ) (change : LogChange) → k < log.logged + log.taken → slice_get changes k ≡ Some change
       → slice_get log.changes k ≡ Some change
-  front k change lt is =
+  leading k change lt is =
       slice_get-take log.changes (log.logged + log.taken) k change
       (ap (λ (xs : List LogChange). slice_get xs k) (sym same)
       ∙ slice_get-into_take changes (log.logged + log.taken) k change lt is)
 
-  holds_front : (count : ℕ) → count ≤ log.logged + log.taken → HoldsSlots d log count
+  holds_leading : (count : ℕ) → count ≤ log.logged + log.taken → HoldsSlots d log count
       → HoldsSlots d (with_tail log places changes) count
-  holds_front count le h k lt change is = h k lt change (front k change (omega arith) is)
+  holds_leading count le h k lt change is = h k lt change (leading k change (omega arith) is)
 
-  header_front : (count : ℕ) (content : Content) → count ≤ log.logged + log.taken
+  header_leading : (count : ℕ) (content : Content) → count ≤ log.logged + log.taken
       → IsHeaderOf log count content → IsHeaderOf (with_tail log places changes) count content
-  header_front count content le h = (h.0, λ k lt change is. h.1 k lt change (front k change (omega arith) is))
+  header_leading count content le h = (h.0, λ k lt change is. h.1 k lt change (leading k change (omega arith) is))
 
-  either_front : (content : Content)
+  either_leading : (content : Content)
       → IsHeaderOf log log.logged content ⊎ IsHeaderOf log (log.logged + log.taken) content
       → IsHeaderOf (with_tail log places changes) log.logged content
       ⊎ IsHeaderOf (with_tail log places changes) (log.logged + log.taken) content
-  either_front content (inl h) = inl (header_front log.logged content (omega arith) h)
-  either_front content (inr h) = inr (header_front (log.logged + log.taken) content (omega arith) h)
+  either_leading content (inl h) = inl (header_leading log.logged content (omega arith) h)
+  either_leading content (inr h) = inr (header_leading (log.logged + log.taken) content (omega arith) h)
 
   pub own_appended : LogAgrees d log → LogAgrees d (with_tail log places changes)
   own_appended h = record {
-    slots = holds_front log.logged (omega arith) h.slots;
+    slots = holds_leading log.logged (omega arith) h.slots;
     written = λ k lt within change is. h.written k lt within change
-        (front (log.logged + k) change (omega arith) is);
-    group_slots = λ later. holds_front (log.logged + log.taken) (omega arith) (h.group_slots later);
-    header = λ before content there. header_front log.logged content (omega arith)
+        (leading (log.logged + k) change (omega arith) is);
+    group_slots = λ later. holds_leading (log.logged + log.taken) (omega arith) (h.group_slots later);
+    header = λ before content there. header_leading log.logged content (omega arith)
         (h.header before content there);
-    group_header = λ later content there. either_front content (h.group_header later content there);
+    group_header = λ later content there. either_leading content (h.group_header later content there);
     newest_header =
-        λ end. header_front (log.logged + log.taken) (newest (current d LOG_HEADER_BLOCK)) (omega arith)
+        λ end. header_leading (log.logged + log.taken) (newest (current d LOG_HEADER_BLOCK)) (omega arith)
         (h.newest_header end);
   }
 
   pub log_made_appended : HasMadeLogCall d log → HasMadeLogCall d (with_tail log places changes)
   log_made_appended h = record {
-    body = λ lt change is. h.body lt change (front (log.logged + log.log_step) change (omega arith) is);
-    body_barrier = λ at. holds_front (log.logged + log.taken) (omega arith) (h.body_barrier at);
-    header = λ at. header_front (log.logged + log.taken) (newest (current d LOG_HEADER_BLOCK)) (omega arith)
+    body = λ lt change is. h.body lt change (leading (log.logged + log.log_step) change (omega arith) is);
+    body_barrier = λ at. holds_leading (log.logged + log.taken) (omega arith) (h.body_barrier at);
+    header = λ at. header_leading (log.logged + log.taken) (newest (current d LOG_HEADER_BLOCK)) (omega arith)
         (h.header at);
     header_barrier =
-        λ at content there. header_front (log.logged + log.taken) content (omega arith)
+        λ at content there. header_leading (log.logged + log.taken) content (omega arith)
         (h.header_barrier at content there);
   }
 
@@ -208,7 +208,7 @@ module _ (d : Device) (log : Log) (places : ℕ) (changes : List LogChange) (law
       record {
         beginning = h.beginning;
         step = h.step;
-        body = λ lt change is. h.body lt change (front (log.logged + log.log_step) change (omega arith) is);
+        body = λ lt change is. h.body lt change (leading (log.logged + log.log_step) change (omega arith) is);
         body_barrier = h.body_barrier;
         header = λ at. (
           (h.header at).0,

@@ -39,10 +39,10 @@ here_lost later x block h = go (nat_eq x.block.0 block) refl
         (ap (λ n. is_some (later n)) (sym (eqb-true x.block.0 block e)) ∙ h)
     go false e = or_else_nothing (later block)
 
-passed_keeps : (xs : List LogChange) (block : ℕ)
+passed_preserves : (xs : List LogChange) (block : ℕ)
     → newest_of (drop (passed_over xs) xs) block ≡ newest_of xs block
-passed_keeps [] block = refl
-passed_keeps (x ∷ xs) block = go (passed_keeps xs block) (is_some (newest_of xs x.block.0)) refl
+passed_preserves [] block = refl
+passed_preserves (x ∷ xs) block = go (passed_preserves xs block) (is_some (newest_of xs x.block.0)) refl
   where
     go : newest_of (drop (passed_over xs) xs) block ≡ newest_of xs block → (later : Bool)
         → is_some (newest_of xs x.block.0) ≡ later
@@ -93,10 +93,10 @@ module _ (changes : List LogChange) (count from : ℕ) (within : count ≤ lengt
           length-take-le count changes within,
         )
 
-    pub next_keeps : (block : ℕ)
+    pub next_preserves : (block : ℕ)
         → newest_of (drop (next_home changes count from) some) block ≡ newest_of (drop from some) block
-    next_keeps block = ap (λ xs. newest_of xs block) (sym (drop-drop (passed_over (drop from some)) from some))
-        ∙ passed_keeps (drop from some) block
+    next_preserves block = ap (λ xs. newest_of xs block) (sym (drop-drop (passed_over (drop from some)) from some))
+        ∙ passed_preserves (drop from some) block
 
     pub next_newest : (change : LogChange) → next_home changes count from < count
         → slice_get changes (next_home changes count from) ≡ Some change

@@ -7,11 +7,11 @@ use Rattle.disk.specs.declared.block.BlockNo.{BlockNo}
 use Rattle.disk.proofs.Failures.{counts_none, counts_one, counts_then}
 use Rattle.circ.specs.Log.Logger.{slot_block}
 use Rattle.circ.specs.Log.Overlay.{home_at, positions}
-use Rattle.circ.specs.Log.Recovery.{HasOnlyRead, IsUnspoiled, image_of}
+use Rattle.circ.specs.Log.Recovery.{HasOnlyRead, IsCertain, image_of}
 
 -- one read alone
-pub read_alone : (before later : Device) → HasRead before later → HasOnlyRead before later
-read_alone before later read = record {
+pub single_read : (before later : Device) → HasRead before later → HasOnlyRead before later
+single_read before later read = record {
   size = read.later.size;
   clock = omega (arith, read.later.clock);
   past = λ clock block below. read.later.past clock block below;
@@ -20,7 +20,7 @@ read_alone before later read = record {
         ∙ read.contents block
     | inr at ↦ read.later.past clock block at ∙ ap (λ n. before.contents n block) (omega (arith, at, from))
   ];
-  spoiled = λ block. read.spoiled block;
+  uncertain = λ block. read.uncertain block;
   failed = read.later.failed;
   lost = read.later.lost;
   counted = counts_one before later read.later;
@@ -32,7 +32,7 @@ no_read before = record {
   clock = omega arith;
   past = λ clock block below. refl;
   during = λ clock block from to. ap (λ n. before.contents n block) (omega (arith, from, to));
-  spoiled = λ block. refl;
+  uncertain = λ block. refl;
   failed = λ call below. refl;
   lost = λ call below. refl;
   counted = counts_none before;
@@ -50,7 +50,7 @@ reads_then a b c first second =
                 ∙ first.during b.clock block first.clock (omega arith)
             | inr sooner ↦ second.past clock block sooner ∙ first.during clock block from sooner
           ];
-      spoiled = λ block. second.spoiled block ∙ first.spoiled block;
+      uncertain = λ block. second.uncertain block ∙ first.uncertain block;
       failed = λ call below. second.failed call (omega (arith, below, first.clock)) ∙ first.failed call below;
       lost = λ call below. second.lost call (omega (arith, below, first.clock)) ∙ first.lost call below;
       counted = counts_then a b c first.clock second.clock second.failed first.counted second.counted;
@@ -59,8 +59,8 @@ reads_then a b c first second =
 pub image_then : (a b : Device) → HasOnlyRead a b → (block : ℕ) → image_of b block ≡ image_of a block
 image_then a b reads block = ap newest (reads.during b.clock block reads.clock (omega arith))
 
-pub unspoiled_then : (a b : Device) → HasOnlyRead a b → IsUnspoiled a → IsUnspoiled b
-unspoiled_then a b reads h = λ block. reads.spoiled block ∙ h block
+pub certain_then : (a b : Device) → HasOnlyRead a b → IsCertain a → IsCertain b
+certain_then a b reads h = λ block. reads.uncertain block ∙ h block
 
 -- one position more
 pub positions_more : (header : Content) (image : Image) (start n : ℕ) (items new : List (BlockNo × Content))

@@ -23,9 +23,9 @@ use Rattle.circ.specs.Log.Logger.{slot_block}
 use Rattle.circ.specs.Log.EightBytes.{number_at}
 use Rattle.circ.specs.Log.Overlay.{start_in, count_in, logged_in, home_at, positions, IsInRange}
 use Rattle.circ.specs.Log.Law.{IsHeaderOf, LogAgrees, HomeAgrees, ShowsLog, IsBoundary}
-use Rattle.circ.specs.Log.Calls.{AgreesBeside, idle}
+use Rattle.circ.specs.Log.Calls.{AgreesWithPending, idle}
 use Rattle.circ.specs.Log.ReadBack.{IsReadBack, IsLogReadBack}
-use Rattle.circ.proofs.LogLemmas.Lists.{slice_get-front}
+use Rattle.circ.proofs.LogLemmas.Lists.{slice_get-leading}
 use Rattle.circ.proofs.LogLemmas.Lawful.{length-changes_of}
 
 -- the one content is the newest
@@ -80,7 +80,7 @@ position_at header image start (suc n) k change is =
         → IsAt header image (start + k) change)
         → IsAt header image (start + k) change
     go (inl lt) ih =
-        ih (slice_get-front (changes_of 0 (positions header image start n)) (it ∷ []) k change
+        ih (slice_get-leading (changes_of 0 (positions header image start n)) (it ∷ []) k change
         (omega (arith, count)) there)
     go (inr le) ih =
         let within = slice_get_within (changes_of 0 (positions header image start n) ++ it ∷ []) k change
@@ -141,11 +141,11 @@ module _ (d : Device) (large : FIRST_HOME_BLOCK ≤ d.size) (rest : IsAtRest d) 
       start = λ before content there. ap (λ c. number_at c 0)
           (newest_at START_BLOCK (omega arith) content there) ∙ (omega arith);
       brought = λ later. absurd (omega (arith, later));
-      raised_start = λ later. absurd (omega (arith, later));
+      advanced_start = λ later. absurd (omega (arith, later));
       newest_start = λ end. absurd (omega (arith, end));
     }
 
-    pub stands_found : AgreesBeside d (image_of d) (log_found d) idle idle
+    pub stands_found : AgreesWithPending d (image_of d) (log_found d) idle idle
     stands_found = record {
       agrees = record { size = refl; own = own_found; homes = homes_found };
       logger = refl;

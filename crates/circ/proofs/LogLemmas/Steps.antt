@@ -69,5 +69,5 @@ change_at log k h lt =
         subst (λ (x : LogChange). IsHomeOn log.blocks x.block) found.3
             (All-get_or (λ (x : LogChange). IsHomeOn log.blocks x.block) log.changes k found.0 lt h.homes),
       )
-      | inr past ↦ absurd (let far : length log.changes ≤ k = past.0 in omega arith)
+      | inr past ↦ absurd (let beyond_all : length log.changes ≤ k = past.0 in omega arith)
     ]

@@ -60,7 +60,7 @@ IsInstallerAt d base log (was_made io (Ok _)) = (log.inst_out ≡ true) × IsNex
 IsInstallerAt d base log (was_made io (Err _)) = (log.inst_out ≡ true) × IsNextInstCall log io
 
 -- The disk agrees with the log, and the calls that are out are these.
-pub record AgreesBeside (d : Device) (base : Image) (log : Log) (logging installing : Pending) : Type 0 where
+pub record AgreesWithPending (d : Device) (base : Image) (log : Log) (logging installing : Pending) : Type 0 where
   pub agrees : Agrees d base log
   pub logger : IsLoggerAt d log logging
   pub installer : IsInstallerAt d base log installing
@@ -72,40 +72,40 @@ home_after base log ok = if ok && nat_le (log.installing + 2) log.inst_step
     then with_changes base (take log.installing log.changes) else base
 
 -- A step of the log keeps the agreement, whatever is out.
-abbrev pub KeepsAgreement : Log → Log → Type 0
-KeepsAgreement old new = (d : Device) (base : Image) (logging installing : Pending)
-    → AgreesBeside d base old logging installing → AgreesBeside d base new logging installing
+abbrev pub PreservesAgreement : Log → Log → Type 0
+PreservesAgreement old new = (d : Device) (base : Image) (logging installing : Pending)
+    → AgreesWithPending d base old logging installing → AgreesWithPending d base new logging installing
 
 -- The logger's call goes out: the agreement is kept, whatever the installer has out.
 abbrev pub LogCallGoesOut : Log → Io → Log → Type 0
 LogCallGoesOut old io new = (d : Device) (base : Image) (installing : Pending)
-    → AgreesBeside d base old idle installing → AgreesBeside d base new (out io) installing
+    → AgreesWithPending d base old idle installing → AgreesWithPending d base new (out io) installing
 
 -- It is made on the disk, with this answer.
 abbrev pub LogCallIsMade : Device → Io → Result Unit Failed → Device → Type 0
 LogCallIsMade old io answer new = (base : Image) (log : Log) (installing : Pending) → IsLawful log
-    → AgreesBeside old base log (out io) installing
-    → AgreesBeside new base log (was_made io answer) installing
+    → AgreesWithPending old base log (out io) installing
+    → AgreesWithPending new base log (was_made io answer) installing
 
 -- It is given back, with whether it was made.
 abbrev pub LogCallComesBack : Log → Io → Bool → Log → Type 0
 LogCallComesBack old io ok new =
     (d : Device) (base : Image) (answer : Result Unit Failed) (installing : Pending) → is_ok answer ≡ ok
-    → AgreesBeside d base old (was_made io answer) installing → AgreesBeside d base new idle installing
+    → AgreesWithPending d base old (was_made io answer) installing → AgreesWithPending d base new idle installing
 
 -- The installer's call goes out: the agreement is kept, whatever the logger has out.
 abbrev pub InstCallGoesOut : Log → Io → Log → Type 0
 InstCallGoesOut old io new = (d : Device) (base : Image) (logging : Pending)
-    → AgreesBeside d base old logging idle → AgreesBeside d base new logging (out io)
+    → AgreesWithPending d base old logging idle → AgreesWithPending d base new logging (out io)
 
 -- It is made on the disk, with this answer.
 abbrev pub InstCallIsMade : Device → Io → Result Unit Failed → Device → Type 0
 InstCallIsMade old io answer new = (base : Image) (log : Log) (logging : Pending) → IsLawful log
-    → AgreesBeside old base log logging (out io) → AgreesBeside new base log logging (was_made io answer)
+    → AgreesWithPending old base log logging (out io) → AgreesWithPending new base log logging (was_made io answer)
 
 -- It is given back, with whether it was made. After the last, what was brought home is what is at home.
 abbrev pub InstCallComesBack : Log → Io → Bool → Log → Type 0
 InstCallComesBack old io ok new =
     (d : Device) (base : Image) (answer : Result Unit Failed) (logging : Pending) → is_ok answer ≡ ok
-    → AgreesBeside d base old logging (was_made io answer)
-    → AgreesBeside d (home_after base old ok) new logging idle
+    → AgreesWithPending d base old logging (was_made io answer)
+    → AgreesWithPending d (home_after base old ok) new logging idle

@@ -21,7 +21,7 @@ pub record GrowsBy (old : Log) (group : List (BlockNo × Content)) (new : Log) :
   pub installing : new.installing ≡ old.installing
   pub logged : new.logged ≡ old.logged
   pub taken : new.taken ≡ old.taken
-  pub front : (count : ℕ) → count ≤ old.logged + old.taken → take count new.changes ≡ take count old.changes
+  pub leading : (count : ℕ) → count ≤ old.logged + old.taken → take count new.changes ≡ take count old.changes
   pub behind : (count : ℕ) → count ≤ old.logged + old.taken → (block : ℕ)
       → newest_of (drop count new.changes) block
       ≡ or_else (newest_in group block) (newest_of (drop count old.changes) block)

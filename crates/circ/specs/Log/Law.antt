@@ -80,7 +80,7 @@ pub record HomeAgrees (d : Device) (base : Image) (log : Log) : Type 0 where
   -- after it they are new, and the raised start may come
   pub brought : log.installing < log.inst_step → (block : ℕ) → IsOutside log.blocks block
       → LeavesOnly d block (λ content. content ≡ with_changes base (take log.installing log.changes) block)
-  pub raised_start : log.installing < log.inst_step
+  pub advanced_start : log.installing < log.inst_step
       → LeavesOnly d START_BLOCK (λ content. IsStartBehind log 0 content
       ⊎ IsStartBehind log log.installing content)
   pub newest_start : log.inst_step ≡ log.installing + 2

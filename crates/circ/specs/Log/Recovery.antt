@@ -17,8 +17,8 @@ abbrev pub image_of : Device → Image
 image_of d block = newest (current d block)
 
 -- no write has failed
-abbrev pub IsUnspoiled : Device → Type 0
-IsUnspoiled d = (block : ℕ) → d.spoiled block ≡ false
+abbrev pub IsCertain : Device → Type 0
+IsCertain d = (block : ℕ) → d.uncertain block ≡ false
 
 -- some reads later: no block has changed, at no clock since
 pub record HasOnlyRead (old new : Device) : Type 0 where
@@ -27,7 +27,7 @@ pub record HasOnlyRead (old new : Device) : Type 0 where
   pub past : (clock block : ℕ) → clock ≤ old.clock → new.contents clock block ≡ old.contents clock block
   pub during : (clock block : ℕ) → old.clock ≤ clock → clock ≤ new.clock
       → new.contents clock block ≡ current old block
-  pub spoiled : (block : ℕ) → new.spoiled block ≡ old.spoiled block
+  pub uncertain : (block : ℕ) → new.uncertain block ≡ old.uncertain block
   pub failed : (call : ℕ) → call < old.clock → new.failed call ≡ old.failed call
   pub lost : (call : ℕ) → call < old.clock → new.lost call ≡ old.lost call
   pub counted : CountsFailures old new

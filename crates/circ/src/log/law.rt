@@ -20,13 +20,13 @@ ghost use Rattle.circ.specs.Log.Installer.{IsNextInstCall, with_inst_out, with_i
 ghost use Rattle.circ.specs.Log.Overlay.{start_in, end_in, logged_in, IsInRange, over};
 ghost use Rattle.circ.specs.Log.Recovery.{image_of, IsRecovered, IsLog};
 ghost use Rattle.circ.specs.Log.Law.{Agrees, IsOutside, IsBoundary, with_changes, with_home};
-ghost use Rattle.circ.specs.Log.Calls.{Pending, idle, AgreesBeside, KeepsAgreement, LogCallGoesOut};
+ghost use Rattle.circ.specs.Log.Calls.{Pending, idle, AgreesWithPending, PreservesAgreement, LogCallGoesOut};
 ghost use Rattle.circ.specs.Log.Calls.{LogCallIsMade, LogCallComesBack, InstCallGoesOut, InstCallIsMade};
 ghost use Rattle.circ.specs.Log.Calls.{InstCallComesBack};
 ghost use Rattle.circ.specs.Log.ReadBack.{IsReadBack, IsLogReadBack};
 
 /// An image whose log is empty stands for its own blocks.
-pub fn an_empty_log_overlays_nothing()
+pub fn an_empty_log_hides_nothing()
     ensures { (image : Image) (block : ℕ) → start_in image ≡ end_in image → over image block ≡ image block }
 {}
 
@@ -53,7 +53,7 @@ pub fn an_opening_reads_whole_groups()
 /// does.
 pub fn an_opening_begins_in_agreement()
     ensures stands { (d : Device) → FIRST_HOME_BLOCK ≤ d.size → IsAtRest d → IsInRange (image_of d)
-        → AgreesBeside d (image_of d) (opened d.size (start_in (image_of d)) (logged_in (image_of d))) idle
+        → AgreesWithPending d (image_of d) (opened d.size (start_in (image_of d)) (logged_in (image_of d))) idle
         idle }
     ensures overlay { (d : Device) (block : ℕ)
         → with_changes (image_of d) (opened d.size (start_in (image_of d)) (logged_in (image_of d))).changes
@@ -61,9 +61,9 @@ pub fn an_opening_begins_in_agreement()
 {}
 
 /// A commit that is appended keeps the agreement, however the tail has its group.
-pub fn an_append_keeps_agreement()
+pub fn an_append_preserves_agreement()
     ensures { (old new : Log) (group : List (BlockNo × Content)) → IsLawful old → GrowsBy old group new
-        → StandsStill old new → KeepsAgreement old new }
+        → StandsStill old new → PreservesAgreement old new }
 {}
 
 /// A group that is appended stands behind the end of each group before it.
@@ -73,15 +73,15 @@ pub fn an_append_grows_the_log()
 {}
 
 /// A read keeps the agreement, whatever is out.
-pub fn a_read_keeps_agreement()
+pub fn a_read_preserves_agreement()
     ensures { (old new : Device) (base : Image) (log : Log) (logging installing : Pending)
         → IsLawful log → HasRead old new
-        → AgreesBeside old base log logging installing → AgreesBeside new base log logging installing }
+        → AgreesWithPending old base log logging installing → AgreesWithPending new base log logging installing }
 {}
 
 /// The logger's next call is handed out, made on the disk with any answer, and given back with that answer,
 /// each of it whatever the installer has out: each keeps the agreement.
-pub fn a_call_of_the_logger_keeps_agreement()
+pub fn a_call_of_the_logger_preserves_agreement()
     ensures goes_out { (log : Log) (io : Io) → IsLawful log → IsNextLogCall (with_log_out log) io
         → LogCallGoesOut log io (with_log_out log) }
     ensures is_made { (old new : Device) (io : Io) (answer : Result Unit Failed) → HasMade old io answer new
@@ -91,7 +91,7 @@ pub fn a_call_of_the_logger_keeps_agreement()
 {}
 
 /// The same of the installer's calls. After its last, what it has brought home is what is at home.
-pub fn a_call_of_the_installer_keeps_agreement()
+pub fn a_call_of_the_installer_preserves_agreement()
     ensures goes_out { (log : Log) (io : Io) → IsLawful log → IsNextInstCall (with_inst_out log) io
         → InstCallGoesOut log io (with_inst_out log) }
     ensures is_made { (old new : Device) (io : Io) (answer : Result Unit Failed) → HasMade old io answer new
@@ -102,7 +102,7 @@ pub fn a_call_of_the_installer_keeps_agreement()
 
 /// A block of which the log has no change may be written beside it: a crash in the middle leaves a whole
 /// group over what was at home or over what is written there, and once the write is settled it is at home.
-pub fn a_write_beside_the_log_keeps_agreement()
+pub fn a_write_outside_the_log_preserves_agreement()
     ensures crash { (old new : Device) (base : Image) (log : Log) (block : ℕ) (content : Content)
         (answer : Result Unit Failed) (image : Image) → IsLawful log → IsOutside log.blocks block
         → newest log block ≡ None
@@ -111,6 +111,6 @@ pub fn a_write_beside_the_log_keeps_agreement()
     ensures settled { (old middle new : Device) (base : Image) (log : Log) (block : ℕ) (content : Content)
         (logging installing : Pending) → IsLawful log → IsOutside log.blocks block → newest log block ≡ None
         → HasWritten old block content (Ok tt) middle → HasSettled middle Home (Ok tt) new
-        → AgreesBeside old base log logging installing
-        → AgreesBeside new (with_home base block content) log logging installing }
+        → AgreesWithPending old base log logging installing
+        → AgreesWithPending new (with_home base block content) log logging installing }
 {}

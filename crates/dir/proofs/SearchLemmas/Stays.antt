@@ -6,7 +6,7 @@ use Rattle.objects.specs.Object.{ObjectBytes}
 use Rattle.inode.specs.declared.snap.Snap.{Snap}
 use Rattle.inode.specs.Read.{Saw}
 use Rattle.dir.proofs.Grown.{grown}
-use Rattle.dir.specs.declared.search.names.Names.{Names}
+use Rattle.dir.specs.declared.search.call_names.Names.{Names}
 use Rattle.dir.specs.Search.Known.{IsKnown}
 
 module _ (snap later : Snap) (more : List ObjectBytes) (same : later.geometry ≡ snap.geometry)

@@ -1,56 +1,56 @@
 //! A name that wasn't looked for yet.
 ghost use Rattle.std.specs.Prelude.{◌≡◌, Some, None, IfOk};
 ghost use Rattle.inode.specs.declared.snap.Snap.{Snap};
-ghost use Rattle.dir.specs.Sought.{IsSought};
-ghost use Rattle.dir.specs.Search.Known.{IsOfPlace};
-ghost use Rattle.dir.specs.Search.Places.{first_place, second_place};
+ghost use Rattle.dir.specs.SearchCursor.{IsSearchCursor};
+ghost use Rattle.dir.specs.Search.Known.{IsOfDentry};
+ghost use Rattle.dir.specs.Search.Places.{first_dentry, second_dentry};
 
-use crate::Sought;
-use crate::search::places::{first_place, second_place};
+use crate::SearchCursor;
+use crate::search::places::{first_dentry, second_dentry};
 use nfs_types::{Call, DirectoryName, Octets};
 use std::alloc::{AllocError, Global};
 
 // The name in the directory of its handle.
-fn begun_at(alloc: Global, place: &DirectoryName) -> Result<Sought, AllocError>
-    ensures knows { IfOk result (λ sought. (snap : Snap) → IsSought snap sought) }
-    ensures is { IfOk result (λ sought. IsOfPlace (Some place.now) sought) }
-    ensures none { IfOk result (λ sought. sought.blocks ≡ 0) }
+fn begun_at(alloc: Global, dentry: &DirectoryName) -> Result<SearchCursor, AllocError>
+    ensures knows { IfOk result (λ cursor. (snap : Snap) → IsSearchCursor snap cursor) }
+    ensures is { IfOk result (λ cursor. IsOfDentry (Some dentry.now) cursor) }
+    ensures none { IfOk result (λ cursor. cursor.blocks ≡ 0) }
 {
-    let directory = match place.directory.parts() {
+    let directory = match dentry.directory.parts() {
         Some((number, _)) => number,
         None => 0,
     };
-    Ok(Sought::begin(directory, Octets::copied(alloc, place.name.as_slice())?))
+    Ok(SearchCursor::begin(directory, Octets::copied(alloc, dentry.name.as_slice())?))
 }
 
 // No name: it is looked for under the number that no file has.
-fn none_begun(alloc: Global) -> Sought
-    ensures knows { (snap : Snap) → IsSought snap result }
-    ensures is { IsOfPlace None result }
+fn none_begun(alloc: Global) -> SearchCursor
+    ensures knows { (snap : Snap) → IsSearchCursor snap result }
+    ensures is { IsOfDentry None result }
 {
-    Sought::begin(0, Octets::new(Vec::new(alloc)))
+    SearchCursor::begin(0, Octets::new(Vec::new(alloc)))
 }
 
 /// The first name of a call.
-pub(crate) fn first_begun(alloc: Global, call: &Call) -> Result<Sought, AllocError>
-    ensures knows { IfOk result (λ sought. (snap : Snap) → IsSought snap sought) }
-    ensures is { IfOk result (λ sought. IsOfPlace (first_place call.now) sought) }
-    ensures none { IfOk result (λ sought. sought.blocks ≡ 0) }
+pub(crate) fn first_begun(alloc: Global, call: &Call) -> Result<SearchCursor, AllocError>
+    ensures knows { IfOk result (λ cursor. (snap : Snap) → IsSearchCursor snap cursor) }
+    ensures is { IfOk result (λ cursor. IsOfDentry (first_dentry call.now) cursor) }
+    ensures none { IfOk result (λ cursor. cursor.blocks ≡ 0) }
 {
-    match first_place(call) {
-        Some(place) => begun_at(alloc, place),
+    match first_dentry(call) {
+        Some(dentry) => begun_at(alloc, dentry),
         None => Ok(none_begun(alloc)),
     }
 }
 
 /// The second name of a call.
-pub(crate) fn second_begun(alloc: Global, call: &Call) -> Result<Sought, AllocError>
-    ensures knows { IfOk result (λ sought. (snap : Snap) → IsSought snap sought) }
-    ensures is { IfOk result (λ sought. IsOfPlace (second_place call.now) sought) }
-    ensures none { IfOk result (λ sought. sought.blocks ≡ 0) }
+pub(crate) fn second_begun(alloc: Global, call: &Call) -> Result<SearchCursor, AllocError>
+    ensures knows { IfOk result (λ cursor. (snap : Snap) → IsSearchCursor snap cursor) }
+    ensures is { IfOk result (λ cursor. IsOfDentry (second_dentry call.now) cursor) }
+    ensures none { IfOk result (λ cursor. cursor.blocks ≡ 0) }
 {
-    match second_place(call) {
-        Some(place) => begun_at(alloc, place),
+    match second_dentry(call) {
+        Some(dentry) => begun_at(alloc, dentry),
         None => Ok(none_begun(alloc)),
     }
 }

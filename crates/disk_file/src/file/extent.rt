@@ -16,7 +16,7 @@ const EXTENT_BYTES: usize = 524_288;
 pub(crate) struct Extent {
     pub(crate) bytes: Vec<u8>,
     pub(crate) first: u64,
-    ghost room: { EXTENT_BYTES ≤ vec_capacity bytes },
+    ghost has_space: { EXTENT_BYTES ≤ vec_capacity bytes },
 }
 
 impl Extent {
@@ -32,8 +32,8 @@ impl Extent {
 
     /// Whether a block at this offset comes right behind them, and finds room.
     pub(crate) fn goes_on_at(&self, offset: u64) -> bool
-        ensures place { IsTrue result → offset ≡ self.now.first + length self.now.bytes.items }
-        ensures room { IsTrue result → length self.now.bytes.items + BLOCK_BYTES ≤ EXTENT_BYTES }
+        ensures is_contiguous { IsTrue result → offset ≡ self.now.first + length self.now.bytes.items }
+        ensures has_space { IsTrue result → length self.now.bytes.items + BLOCK_BYTES ≤ EXTENT_BYTES }
     {
         let pending = self.bytes.len();
         pending <= EXTENT_BYTES - BLOCK_BYTES

@@ -7,7 +7,7 @@ ghost use Rattle.disk.specs.Ports.{LiesOn, answered};
 ghost use Rattle.disk.specs.declared.block.Side.TheVariants.{Home};
 
 use super::extent::Extent;
-use super::{BlockFile, NotedFile};
+use super::{BlockFile, TracedFile};
 use crate::file_disk::offset;
 use disk::{Block, BlockNo, Failed, Port, PortCall, Side, Source};
 use http_server::Log;
@@ -27,7 +27,7 @@ pub struct FilePort<F: BlockFile> {
     extent: Extent,
     // An extent was lost, whose writes were answered Ok: then nothing is written or settled any more.
     is_lost: bool,
-    noted: Log<PortCall, Result<(), Failed>>,
+    traced: Log<PortCall, Result<(), Failed>>,
 }
 
 /// The home blocks of a file. Each read of one that is there is one read of the file, and no other asks anything. Each
@@ -36,15 +36,15 @@ pub struct FilePort<F: BlockFile> {
 pub struct FileSource<F: BlockFile> {
     file: Arc<F, Global>,
     blocks: u32,
-    noted: Log<PortCall, Result<(), Failed>>,
+    traced: Log<PortCall, Result<(), Failed>>,
 }
 
-impl<F: BlockFile> NotedFile<F> {
+impl<F: BlockFile> TracedFile<F> {
     // The file, to be shared. What was noted of it is told no more.
     pub(crate) fn shared(self, alloc: Global) -> Result<Arc<F, Global>, AllocError>
         ensures { IfOk result (λ file. arc_value file ≡ self.file) }
     {
-        let NotedFile { file, calls: _ } = self;
+        let TracedFile { file, calls: _ } = self;
         Ok(Arc::new(alloc, file)?)
     }
 }
@@ -60,7 +60,7 @@ impl<F: BlockFile> FilePort<F> {
         ensures file { IfOk result (λ port. port.file ≡ file) }
         ensures blocks { IfOk result (λ port. port.blocks ≡ blocks) }
         ensures side { IfOk result (λ port. port.side ≡ side) }
-        ensures noted { IfOk result (λ port. port.noted.items ≡ []) }
+        ensures traced { IfOk result (λ port. port.traced.items ≡ []) }
     {
         Ok(FilePort {
             file,
@@ -68,7 +68,7 @@ impl<F: BlockFile> FilePort<F> {
             side,
             extent: Extent::new(alloc)?,
             is_lost: false,
-            noted: Log::new(),
+            traced: Log::new(),
         })
     }
 
@@ -80,7 +80,7 @@ impl<F: BlockFile> FilePort<F> {
         ensures lost { OnOk result ((self.old.is_lost ≡ false) × (self.new.is_lost ≡ false)) }
         ensures blocks { self.new.blocks ≡ self.old.blocks }
         ensures side { self.new.side ≡ self.old.side }
-        ensures noted { self.new.noted ≡ self.old.noted }
+        ensures traced { self.new.traced ≡ self.old.traced }
     {
         if self.is_lost || block.0 >= self.blocks || block.side() != self.side {
             return Err(Failed);
@@ -100,7 +100,7 @@ impl<F: BlockFile> FilePort<F> {
         ensures lost { self.new.is_lost ≡ is_err result }
         ensures blocks { self.new.blocks ≡ self.old.blocks }
         ensures side { self.new.side ≡ self.old.side }
-        ensures noted { self.new.noted ≡ self.old.noted }
+        ensures traced { self.new.traced ≡ self.old.traced }
     {
         let made = self.extent.write_to(&*self.file);
         self.is_lost = made.is_err();
@@ -114,7 +114,7 @@ impl<F: BlockFile> FilePort<F> {
         ensures lost { OnOk result ((self.old.is_lost ≡ false) × (self.new.is_lost ≡ false)) }
         ensures blocks { self.new.blocks ≡ self.old.blocks }
         ensures side { self.new.side ≡ self.old.side }
-        ensures noted { self.new.noted ≡ self.old.noted }
+        ensures traced { self.new.traced ≡ self.old.traced }
     {
         if self.is_lost || side != self.side {
             return Err(Failed);
@@ -131,18 +131,18 @@ impl<F: BlockFile> Port for FilePort<F> {
 
     ghost size = { λ p. p.blocks };
 
-    ghost calls = { λ p. answered p.noted.items };
+    ghost calls = { λ p. answered p.traced.items };
 
     fn write(&mut self, block: BlockNo, content: &Block) -> Result<(), Failed> {
         let result = self.put(block, content);
         let call = PortCall::Write(block, Snapshot::of(content));
-        self.noted = self.noted.and(&call, &result);
+        self.traced = self.traced.and(&call, &result);
         result
     }
 
     fn barrier(&mut self, side: Side) -> Result<(), Failed> {
         let result = self.sync(side);
-        self.noted = self.noted.and(&PortCall::Barrier(side), &result);
+        self.traced = self.traced.and(&PortCall::Barrier(side), &result);
         result
     }
 }
@@ -151,12 +151,12 @@ impl<F: BlockFile> FileSource<F> {
     // The home blocks of a file of so many.
     pub(crate) fn new(file: Arc<F, Global>, blocks: u32) -> FileSource<F>
         ensures blocks { result.blocks ≡ blocks }
-        ensures noted { result.noted.items ≡ [] }
+        ensures traced { result.traced.items ≡ [] }
     {
         FileSource {
             file,
             blocks,
-            noted: Log::new(),
+            traced: Log::new(),
         }
     }
 
@@ -178,12 +178,12 @@ impl<F: BlockFile> Source for FileSource<F> {
 
     ghost size = { λ s. s.blocks };
 
-    ghost calls = { λ s. answered s.noted.items };
+    ghost calls = { λ s. answered s.traced.items };
 
     fn read(&mut self, block: BlockNo, out: &mut Block) -> Result<(), Failed> {
         let result = self.get(block, out);
         let call = PortCall::Read(block, Snapshot::of(out));
-        self.noted = self.noted.and(&call, &result);
+        self.traced = self.traced.and(&call, &result);
         result
     }
 }

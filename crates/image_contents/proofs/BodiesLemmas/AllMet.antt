@@ -11,9 +11,9 @@ use Rattle.layout.specs.Decode.{doubled_in, numbers_in, numbers_of, pointer_bloc
 use Rattle.layout.specs.Owners.{owned_by}
 use Rattle.layout.proofs.FileNumbers.{in_parts, pointers_are}
 use Rattle.layout.proofs.NumbersIn.{no_double_left, none_left}
-use Rattle.image_read.specs.Tallies.Tally.{IsOwned, Owned, is_in, times}
+use Rattle.image_read.specs.ImageCounts.Tally.{IsOwned, Owned, is_in, times}
 use Rattle.image_read.specs.Counts.Adds.{is_some}
-use Rattle.image_read.specs.Files.Far.{near_of}
+use Rattle.image_read.specs.Files.RowNumbers.{numbers_before_double}
 use Rattle.image_read.proofs.FilesLemmas.Rows.{rows_more, rows_of}
 use Rattle.image_contents.specs.Bodies.Inner.{below_of}
 
@@ -90,23 +90,23 @@ nothing_below content double none =
     inner = filter is_some (numbers_in content double)
 
 -- one inner block more
-pub met_more : (content : Image) (inner met : List ℕ) (place : ℕ) → place < length inner
-    → (met ++ filter is_some (rows_of content inner place))
-    ++ filter is_some (numbers_in content (get_or inner place 0))
-    ≡ met ++ filter is_some (rows_of content inner (place + 1))
-met_more content inner met place less =
-    append_assoc met (filter is_some (rows_of content inner place))
-    (filter is_some (numbers_in content (get_or inner place 0)))
+pub met_more : (content : Image) (inner met : List ℕ) (index_within : ℕ) → index_within < length inner
+    → (met ++ filter is_some (rows_of content inner index_within))
+    ++ filter is_some (numbers_in content (get_or inner index_within 0))
+    ≡ met ++ filter is_some (rows_of content inner (index_within + 1))
+met_more content inner met index_within less =
+    append_assoc met (filter is_some (rows_of content inner index_within))
+    (filter is_some (numbers_in content (get_or inner index_within 0)))
     ∙ ap (λ l. met ++ l)
-    (sym (filter-append is_some (rows_of content inner place) (numbers_in content (get_or inner place 0)))
-    ∙ ap (filter is_some) (sym (rows_more content inner place less)))
+    (sym (filter-append is_some (rows_of content inner index_within) (numbers_in content (get_or inner index_within 0)))
+    ∙ ap (filter is_some) (sym (rows_more content inner index_within less)))
 
 module _ (content : Image) (inode : Inode) where
   abbrev indirect : List ℕ
   indirect = filter is_some (inode.indirect ∷ [])
 
-  abbrev near : List ℕ
-  near = filter is_some (near_of content inode)
+  abbrev lower_part : List ℕ
+  lower_part = filter is_some (numbers_before_double content inode)
 
   abbrev pointers : List ℕ
   pointers = filter is_some (inode.double ∷ numbers_in content inode.double)
@@ -114,22 +114,22 @@ module _ (content : Image) (inode : Inode) where
   abbrev further : List ℕ
   further = filter is_some (doubled_in content inode.double)
 
-  owned_in_parts : owned_by content (Ok (Some inode)) ≡ (indirect ++ pointers) ++ (near ++ further)
+  owned_in_parts : owned_by content (Ok (Some inode)) ≡ (indirect ++ pointers) ++ (lower_part ++ further)
   owned_in_parts =
       filter-append is_some (pointer_blocks content inode) (numbers_of content inode)
       ∙ (λ i. filter is_some (pointers_are content inode i) ++ filter is_some (in_parts content inode i))
       ∙ (λ i. filter-append is_some (inode.indirect ∷ []) (inode.double ∷ numbers_in content inode.double) i
-      ++ filter-append is_some (near_of content inode) (doubled_in content inode.double) i)
+      ++ filter-append is_some (numbers_before_double content inode) (doubled_in content inode.double) i)
 
   -- the numbers in front of the double indirect block, and then what that reaches
   pub all_met : (met : List ℕ) (owned : Owned)
-      → IsOwned (met ++ filter is_some (inode.indirect ∷ near_of content inode) ++ below_of content inode.double) owned
+      → IsOwned (met ++ filter is_some (inode.indirect ∷ numbers_before_double content inode) ++ below_of content inode.double) owned
       → IsOwned (met ++ owned_by content (Ok (Some inode))) owned
   all_met met owned is =
-      subst (λ l. IsOwned l owned) (sym (then_so ∙ back met indirect pointers near further))
-      (exchanged (met ++ indirect) near pointers further owned (subst (λ l. IsOwned l owned) at_first is))
+      subst (λ l. IsOwned l owned) (sym (then_so ∙ back met indirect pointers lower_part further))
+      (exchanged (met ++ indirect) lower_part pointers further owned (subst (λ l. IsOwned l owned) at_first is))
     where
-      then_so : met ++ owned_by content (Ok (Some inode)) ≡ met ++ ((indirect ++ pointers) ++ (near ++ further))
+      then_so : met ++ owned_by content (Ok (Some inode)) ≡ met ++ ((indirect ++ pointers) ++ (lower_part ++ further))
       then_so = ap (λ l. met ++ l) owned_in_parts
 
       regrouped : (m a b c d : List ℕ) → (m ++ (a ++ b)) ++ (c ++ d) ≡ m ++ a ++ b ++ c ++ d
@@ -138,9 +138,9 @@ module _ (content : Image) (inode : Inode) where
       back : (m a b c d : List ℕ) → m ++ ((a ++ b) ++ (c ++ d)) ≡ m ++ a ++ b ++ c ++ d
       back m a b c d = simp append_assoc
 
-      at_first : met ++ filter is_some (inode.indirect ∷ near_of content inode) ++ below_of content inode.double
-          ≡ met ++ indirect ++ near ++ pointers ++ further
+      at_first : met ++ filter is_some (inode.indirect ∷ numbers_before_double content inode) ++ below_of content inode.double
+          ≡ met ++ indirect ++ lower_part ++ pointers ++ further
       at_first =
           ap (λ l. met ++ l ++ (pointers ++ further))
-          (filter-append is_some (inode.indirect ∷ []) (near_of content inode))
-          ∙ regrouped met indirect near pointers further
+          (filter-append is_some (inode.indirect ∷ []) (numbers_before_double content inode))
+          ∙ regrouped met indirect lower_part pointers further

@@ -12,7 +12,7 @@ use Rattle.layout.proofs.FileNumbers.{in_parts}
 use Rattle.layout.proofs.NumbersIn.{in_length, none_at, none_in}
 use Rattle.layout.proofs.Pieces.{pieces-length}
 use Rattle.image_read.specs.Files.Content.{AreLong}
-use Rattle.image_read.specs.Files.Far.{near_of}
+use Rattle.image_read.specs.Files.RowNumbers.{numbers_before_double}
 use Rattle.image_read.proofs.FilesLemmas.Rows.{rows_more, rows_of}
 use Rattle.image_read.proofs.FilesLemmas.TailBytes.{none_yet, zero_bytes, zeros_both}
 use Rattle.image_contents.specs.Bodies.Inner.{is_zero_below, is_zero_row}
@@ -49,32 +49,32 @@ module _ (content : Image) (long : AreLong content) where
       (λ i less. ap (λ n. nat_eq n 0) (none_at content double none i))
 
   -- one inner block more
-  pub rows_zero : (size place : ℕ) (inner : List ℕ) → place < length inner
-      → is_zeros (drop (size - BLOCK_BYTES * FIRST_DOUBLE_INDEX) (bytes_of content (rows_of content inner (place + 1))))
-      ≡ (is_zeros (drop (size - BLOCK_BYTES * FIRST_DOUBLE_INDEX) (bytes_of content (rows_of content inner place)))
-      && is_zero_row content size (get_or inner place 0) place)
-  rows_zero size place inner less =
+  pub rows_zero : (size index_within : ℕ) (inner : List ℕ) → index_within < length inner
+      → is_zeros (drop (size - BLOCK_BYTES * FIRST_DOUBLE_INDEX) (bytes_of content (rows_of content inner (index_within + 1))))
+      ≡ (is_zeros (drop (size - BLOCK_BYTES * FIRST_DOUBLE_INDEX) (bytes_of content (rows_of content inner index_within)))
+      && is_zero_row content size (get_or inner index_within 0) index_within)
+  rows_zero size index_within inner less =
       let from : ℕ = size - BLOCK_BYTES * FIRST_DOUBLE_INDEX in
-      let number = get_or inner place 0 in
-      let few = length-take-le place inner (omega (arith, less)) in
-      let count = pieces-length (numbers_in content) INDIRECT_INDEXES (in_length content) (take place inner) in
-      let at : (size - BLOCK_BYTES * FIRST_DOUBLE_INDEX) - BLOCK_BYTES * length (rows_of content inner place)
-      ≡ size - BLOCK_BYTES * (FIRST_DOUBLE_INDEX + INDIRECT_INDEXES * place) =
+      let number = get_or inner index_within 0 in
+      let few = length-take-le index_within inner (omega (arith, less)) in
+      let count = pieces-length (numbers_in content) INDIRECT_INDEXES (in_length content) (take index_within inner) in
+      let at : (size - BLOCK_BYTES * FIRST_DOUBLE_INDEX) - BLOCK_BYTES * length (rows_of content inner index_within)
+      ≡ size - BLOCK_BYTES * (FIRST_DOUBLE_INDEX + INDIRECT_INDEXES * index_within) =
       omega (arith, few, count) in
-      ap (λ l. is_zeros (drop from (bytes_of content l))) (rows_more content inner place less)
-      ∙ zeros_both content long from (rows_of content inner place) (numbers_in content number)
-      ∙ ap (λ n. is_zeros (drop from (bytes_of content (rows_of content inner place)))
+      ap (λ l. is_zeros (drop from (bytes_of content l))) (rows_more content inner index_within less)
+      ∙ zeros_both content long from (rows_of content inner index_within) (numbers_in content number)
+      ∙ ap (λ n. is_zeros (drop from (bytes_of content (rows_of content inner index_within)))
       && is_zeros (drop n (bytes_of content (numbers_in content number)))) at
 
   -- nothing lies past a file's size where nothing does in its first blocks and in those below the double indirect block
   pub whole_zeros : (inode : Inode) → length inode.direct ≡ DIRECT_INDEXES
       → is_zeros (drop inode.size (bytes_of content (numbers_of content inode)))
-      ≡ (is_zeros (drop inode.size (bytes_of content (near_of content inode))) && is_zero_below content inode)
+      ≡ (is_zeros (drop inode.size (bytes_of content (numbers_before_double content inode))) && is_zero_below content inode)
   whole_zeros inode direct =
-      let far = in_length content inode.indirect in
+      let indirect_part = in_length content inode.indirect in
       let first = length-append inode.direct (numbers_in content inode.indirect) in
-      let count : length (near_of content inode) ≡ FIRST_DOUBLE_INDEX = omega (arith, first, far, direct) in
+      let count : length (numbers_before_double content inode) ≡ FIRST_DOUBLE_INDEX = omega (arith, first, indirect_part, direct) in
       ap (λ l. is_zeros (drop inode.size (bytes_of content l))) (in_parts content inode)
-      ∙ zeros_both content long inode.size (near_of content inode) (doubled_in content inode.double)
-      ∙ ap (λ n. is_zeros (drop inode.size (bytes_of content (near_of content inode)))
+      ∙ zeros_both content long inode.size (numbers_before_double content inode) (doubled_in content inode.double)
+      ∙ ap (λ n. is_zeros (drop inode.size (bytes_of content (numbers_before_double content inode)))
       && is_zeros (drop (inode.size - BLOCK_BYTES * n) (bytes_of content (doubled_in content inode.double)))) count

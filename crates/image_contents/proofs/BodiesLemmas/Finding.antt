@@ -9,13 +9,13 @@ use Rattle.disk.specs.Crash.{Image}
 use Rattle.layout.specs.declared.geometry.Geometry.{Geometry}
 use Rattle.layout.specs.declared.inode.Inode.{Inode}
 use Rattle.layout.specs.Owners.{owned_by}
-use Rattle.image_read.specs.Tallies.Tally.{AreCounts, IsOwned, Owned}
+use Rattle.image_read.specs.ImageCounts.Tally.{AreCounts, IsOwned, Owned}
 use Rattle.image_read.specs.declared.counts.links.Links.{Links}
 use Rattle.image_read.proofs.FilesLemmas.SlotBlocks.{range_more}
 use Rattle.image_read.specs.Counts.Adds.{AreNamed, for_directories, named_children}
 use Rattle.image_contents.specs.declared.bodies.found.Found.{Found}
-use Rattle.image_contents.specs.Bodies.Bodies.{HasBlocks, IsAdded, IsFound, IsLookedAt, IsTidy, all_owned}
-use Rattle.image_contents.specs.Bodies.Bodies.{first_untidy, names_at}
+use Rattle.image_contents.specs.Bodies.Bodies.{HasBlocks, IsAdded, IsFound, IsScanned, IsClean, all_owned}
+use Rattle.image_contents.specs.Bodies.Bodies.{first_unclean, names_at}
 
 flat_more : (f : ℕ → List ℕ) (n : ℕ)
     → flat_map f (range_with_len 0 (n + 1)) ≡ flat_map f (range_with_len 0 n) ++ f n
@@ -48,51 +48,51 @@ module _ (g : Geometry) (content : Image) (table : List (Option Inode)) where
   none_added number found = record {
     owned = λ met owned. subst (λ l. IsOwned l found.owners) (sym (append-nil met)) owned;
     named = λ all met naming named. none_named number all met naming found.links named;
-    tidy = λ is. (is, tt);
-    untidy = λ first some. inl some;
+    is_clean = λ is. (is, tt);
+    unclean = λ first some. inl some;
   }
 
   -- a file adds what was met and counted
   pub file_added : (number : ℕ) (inode : Inode) (old : Found) (owners : Owned) (links : Links)
-      (tidy : Bool) (untidy : Option ℕ)
+      (is_clean : Bool) (unclean : Option ℕ)
       → ((met : List ℕ) → IsOwned met old.owners → IsOwned (met ++ owned_by content (Ok (Some inode))) owners)
-      → IsLookedAt g content table number inode.kind inode old.links links tidy
-      → untidy ≡ first_untidy old.untidy number tidy
+      → IsScanned g content table number inode.kind inode old.links links is_clean
+      → unclean ≡ first_unclean old.unclean number is_clean
       → IsAdded g content table number (Some inode) old
-      (record { owners = owners; links = links; untidy = untidy })
-  file_added number inode old owners links tidy untidy owned looked is = record {
+      (record { owners = owners; links = links; unclean = unclean })
+  file_added number inode old owners links is_clean unclean owned scanned is = record {
     owned = owned;
-    named = looked.named;
-    tidy = λ none. let both = still_tidy old.untidy tidy (sym is ∙ none) in (both.0, looked.yes both.1);
-    untidy = λ first some. elim (then_untidy old.untidy tidy first (sym is ∙ some)) [
+    named = scanned.named;
+    is_clean = λ none. let both = still_clean old.unclean is_clean (sym is ∙ none) in (both.0, scanned.yes both.1);
+    unclean = λ first some. elim (then_unclean old.unclean is_clean first (sym is ∙ some)) [
       | inl earlier ↦ inl earlier
-      | inr here ↦ inr (here.0, here.1, looked.no here.2)
+      | inr here ↦ inr (here.0, here.1, scanned.no here.2)
     ];
   }
     where
-      still_tidy : (old : Option ℕ) (b : Bool) → first_untidy old number b ≡ None → (old ≡ None) × (b ≡ true)
-      still_tidy None true e = (refl, refl)
-      still_tidy None false e = cc
-      still_tidy (Some n) b e = cc
+      still_clean : (old : Option ℕ) (b : Bool) → first_unclean old number b ≡ None → (old ≡ None) × (b ≡ true)
+      still_clean None true e = (refl, refl)
+      still_clean None false e = cc
+      still_clean (Some n) b e = cc
 
       number_in : Option ℕ → ℕ
       number_in (Some n) = n
       number_in None = number
 
-      then_untidy : (old : Option ℕ) (b : Bool) (first : ℕ) → first_untidy old number b ≡ Some first
+      then_unclean : (old : Option ℕ) (b : Bool) (first : ℕ) → first_unclean old number b ≡ Some first
           → (old ≡ Some first) ⊎ ((number ≡ first) × (old ≡ None) × (b ≡ false))
-      then_untidy None true first e = cc
-      then_untidy None false first e = inr (ap number_in e, refl, refl)
-      then_untidy (Some n) b first e = inl e
+      then_unclean None true first e = cc
+      then_unclean None false first e = inr (ap number_in e, refl, refl)
+      then_unclean (Some n) b first e = inl e
 
-  pub none_found : (found : Found) → IsOwned [] found.owners → AreNamed [] [] [] found.links → found.untidy ≡ None
+  pub none_found : (found : Found) → IsOwned [] found.owners → AreNamed [] [] [] found.links → found.unclean ≡ None
       → IsFound g content table 0 found
-  none_found found owned named tidy = record {
+  none_found found owned named is_clean = record {
     blocks = λ number less. absurd (omega (arith, less));
     owned = owned;
     named = named;
-    tidy = λ is number less. absurd (omega (arith, less));
-    untidy = λ number some. absurd (let clash : ◌≡◌ {A = Option ℕ} None (Some number) = sym tidy ∙ some in cc);
+    is_clean = λ is number less. absurd (omega (arith, less));
+    unclean = λ number some. absurd (let clash : ◌≡◌ {A = Option ℕ} None (Some number) = sym is_clean ∙ some in cc);
   }
 
   pub one_found : (count : ℕ) (old new : Found) → IsFound g content table count old
@@ -116,20 +116,20 @@ module _ (g : Geometry) (content : Image) (table : List (Option Inode)) where
             (sym (flat_more naming count))
             (added.named (flat_map names (range_with_len 0 count)) (flat_map met (range_with_len 0 count))
             (flat_map naming (range_with_len 0 count)) before.named);
-        tidy = λ is number less. elim (cases_lt number count) [
-          | inl sooner ↦ before.tidy (added.tidy is).0 number sooner
+        is_clean = λ is number less. elim (cases_lt number count) [
+          | inl sooner ↦ before.is_clean (added.is_clean is).0 number sooner
           | inr past ↦
               let at : count ≡ number = omega (arith, less, past) in
-              subst (λ n. IsTidy g content (get_or table n None)) at (added.tidy is).1
+              subst (λ n. IsClean g content (get_or table n None)) at (added.is_clean is).1
         ];
-        untidy = λ number some. elim (added.untidy number some) [
+        unclean = λ number some. elim (added.unclean number some) [
           | inl earlier ↦
-              let is = before.untidy number earlier in
+              let is = before.unclean number earlier in
               record { within = omega (arith, is.within); is = is.is; first = is.first }
           | inr here ↦ record {
             within = omega (arith, here.0);
-            is = subst (λ n. IsTidy g content (get_or table n None) → ⊥) here.0 here.2;
-            first = λ lower less. before.tidy here.1 lower (omega (arith, less, here.0));
+            is = subst (λ n. IsClean g content (get_or table n None) → ⊥) here.0 here.2;
+            first = λ lower less. before.is_clean here.1 lower (omega (arith, less, here.0));
           }
         ];
       }

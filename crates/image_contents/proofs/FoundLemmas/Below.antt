@@ -5,7 +5,7 @@ use Rattle.std.specs.List.{cons_option, filter_map, flat_map, range_with_len}
 use Rattle.std.proofs.lemmas.Bool.{ne_eqb}
 use Rattle.std.proofs.lemmas.List.Sums.{sum_by-append, sum_by-cons}
 use Rattle.disk.specs.Crash.{Image}
-use Rattle.nfs_spec.specs.Model.Node.{DirectoryEntry}
+use Rattle.nfs_spec.specs.Model.Node.{DirentValue}
 use Rattle.layout.specs.declared.fault.LayoutFault.{LayoutFault}
 use Rattle.layout.specs.declared.fault.LayoutFault.TheVariants.{Range}
 use Rattle.layout.specs.declared.geometry.Geometry.{Geometry}
@@ -13,12 +13,12 @@ use Rattle.layout.specs.declared.inode.Inode.{Inode}
 use Rattle.layout.specs.declared.inode.InodeKind.{InodeKind}
 use Rattle.layout.specs.declared.inode.InodeKind.TheVariants.{Directory, Link, Regular}
 use Rattle.layout.specs.declared.slot.Slot.{Slot}
-use Rattle.layout.specs.Decode.{entry_in, named_in, slot_bytes, slots_of}
+use Rattle.layout.specs.Decode.{dirent_in, named_in, slot_bytes, slots_of}
 use Rattle.layout.specs.Parts.{Parts}
 use Rattle.layout.specs.SlotForm.{is_sound_slot, read_slot, slot_of}
 use Rattle.inode.proofs.AllTests.{is_less}
 use Rattle.dir.proofs.Members.{none_some}
-use Rattle.image_read.specs.Tallies.Tally.{times}
+use Rattle.image_read.specs.ImageCounts.Tally.{times}
 use Rattle.image_read.specs.Laws.TreeOf.{all_named, named_numbers, named_of, numbers_named}
 
 -- ---- a slot that is read names the number of an inode
@@ -54,22 +54,22 @@ unfolding read_slot
 slot_below inodes bytes slot e =
     slot_by inodes bytes slot _ _ (is_sound_slot inodes bytes) refl e
 
-one_entry : (one other : List ℕ × DirectoryEntry) → Some one ≡ Some other → one ≡ other
-one_entry one other e = cc
+one_dirent : (one other : List ℕ × DirentValue) → Some one ≡ Some other → one ≡ other
+one_dirent one other e = cc
 
-entry_below : (inodes index : ℕ) (bytes : List ℕ) (r : Result (Option Slot) LayoutFault) → read_slot inodes bytes ≡ r
-    → (entry : List ℕ × DirectoryEntry) → entry_in index r ≡ Some entry → entry.1.number < inodes
-entry_below inodes index bytes (Ok (Some slot)) is entry e =
-    subst (λ (one : List ℕ × DirectoryEntry). one.1.number < inodes)
-    (one_entry (slot.name, record { number = slot.number; slot = index }) entry e) (slot_below inodes bytes slot is)
-entry_below inodes index bytes (Ok None) is entry e = absurd (none_some entry e)
-entry_below inodes index bytes (Err fault) is entry e = absurd (none_some entry e)
+dirent_below : (inodes index : ℕ) (bytes : List ℕ) (r : Result (Option Slot) LayoutFault) → read_slot inodes bytes ≡ r
+    → (entry : List ℕ × DirentValue) → dirent_in index r ≡ Some entry → entry.1.number < inodes
+dirent_below inodes index bytes (Ok (Some slot)) is entry e =
+    subst (λ (one : List ℕ × DirentValue). one.1.number < inodes)
+    (one_dirent (slot.name, record { number = slot.number; slot = index }) entry e) (slot_below inodes bytes slot is)
+dirent_below inodes index bytes (Ok None) is entry e = absurd (none_some entry e)
+dirent_below inodes index bytes (Err fault) is entry e = absurd (none_some entry e)
 
 -- ---- so no other number is named
 
 module _ (inodes number : ℕ) (past : inodes ≤ number) where
-  with_first : (es : List (List ℕ × DirectoryEntry)) (o : Option (List ℕ × DirectoryEntry))
-      → ((e : List ℕ × DirectoryEntry) → o ≡ Some e → e.1.number < inodes)
+  with_first : (es : List (List ℕ × DirentValue)) (o : Option (List ℕ × DirentValue))
+      → ((e : List ℕ × DirentValue) → o ≡ Some e → e.1.number < inodes)
       → times (numbers_named es) number ≡ 0 → times (numbers_named (cons_option o es)) number ≡ 0
   with_first es None each rest = rest
   with_first es (Some e) each rest =
@@ -79,8 +79,8 @@ module _ (inodes number : ℕ) (past : inodes ≤ number) where
       let all = sum_by-cons (λ n. cond (nat_eq n number) 1 0) e.1.number (numbers_named es) in
       omega (arith, here, all, rest)
 
-  none_given : (f : ℕ → Option (List ℕ × DirectoryEntry))
-      → ((k : ℕ) (e : List ℕ × DirectoryEntry) → f k ≡ Some e → e.1.number < inodes)
+  none_given : (f : ℕ → Option (List ℕ × DirentValue))
+      → ((k : ℕ) (e : List ℕ × DirentValue) → f k ≡ Some e → e.1.number < inodes)
       → (ks : List ℕ) → times (numbers_named (filter_map f ks)) number ≡ 0
   none_given f each [] = refl
   none_given f each (k ∷ ks) = with_first (filter_map f ks) (f k) (each k) (none_given f each ks)
@@ -89,8 +89,8 @@ module _ (inodes number : ℕ) (past : inodes ≤ number) where
       → times (named_numbers inodes content kind inode) number ≡ 0
   unfolding named_in
   none_of_kind content inode Directory =
-      none_given (λ index. entry_in index (read_slot inodes (slot_bytes content inode index)))
-      (λ k e is. entry_below inodes k (slot_bytes content inode k)
+      none_given (λ index. dirent_in index (read_slot inodes (slot_bytes content inode index)))
+      (λ k e is. dirent_below inodes k (slot_bytes content inode k)
       (read_slot inodes (slot_bytes content inode k)) refl e
       is)
       (slots_of inode)

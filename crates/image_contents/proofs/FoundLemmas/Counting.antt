@@ -10,7 +10,7 @@ use Rattle.std.proofs.lemmas.List.Sums.{sum_by-cons}
 use Rattle.base.specs.declared.TheConstants.{MOST_LINKS}
 use Rattle.disk.specs.Crash.{Image}
 use Rattle.nfs_spec.specs.Model.Names.{is_directory, is_directory_at}
-use Rattle.nfs_spec.specs.Model.Node.{DirectoryEntry}
+use Rattle.nfs_spec.specs.Model.Node.{DirentValue}
 use Rattle.nfs_spec.specs.Model.Tree.{node_at}
 use Rattle.layout.specs.declared.fault.LayoutFault.{LayoutFault}
 use Rattle.layout.specs.declared.fault.LayoutFault.TheVariants.{Range}
@@ -23,7 +23,7 @@ use Rattle.layout.specs.Owners.{owned, owned_by}
 use Rattle.layout.specs.Parts.{content_in, parts_of, table_of}
 use Rattle.layout.proofs.Frame.{counts}
 use Rattle.bitmap.proofs.Ranges.{one_if, same_sums}
-use Rattle.image_read.specs.Tallies.Tally.{AreCounts, IsOwned, times}
+use Rattle.image_read.specs.ImageCounts.Tally.{AreCounts, IsOwned, times}
 use Rattle.image_read.specs.Counts.Linked.{is_directory_in, is_directory_kind}
 use Rattle.image_read.specs.Laws.TreeOf.{all_named, named_numbers, named_of, numbers_named, tree_of}
 use Rattle.image_read.proofs.LawsLemmas.Made.{files_are}
@@ -134,14 +134,14 @@ module _ (g : Geometry) (blocks : Image) (table : List (Option Inode))
         ] in
         ap is_directory_at (files_are g blocks number) ∙ file
 
-    children_are : (es : List (List ℕ × DirectoryEntry))
+    children_are : (es : List (List ℕ × DirentValue))
         → count_by (λ m. is_directory_in (get_or table m None)) (numbers_named es)
-        ≡ count_by (λ (e : List ℕ × DirectoryEntry). is_directory_at (node_at (tree_of g blocks) e.1.number)) es
+        ≡ count_by (λ (e : List ℕ × DirentValue). is_directory_at (node_at (tree_of g blocks) e.1.number)) es
     children_are [] = refl
     children_are (e ∷ es) =
         let rest = children_are es in
         let one = sum_by-cons (λ m. one_if (is_directory_in (get_or table m None))) e.1.number (numbers_named es) in
-        let other = sum_by-cons (λ (x : List ℕ × DirectoryEntry). one_if (is_directory_at (node_at (tree_of g blocks)
+        let other = sum_by-cons (λ (x : List ℕ × DirentValue). one_if (is_directory_at (node_at (tree_of g blocks)
         x.1.number))) e es in
         let here = ap one_if (directory_is e.1.number) in
         omega (arith, rest, one, other, here)
@@ -155,7 +155,7 @@ module _ (g : Geometry) (blocks : Image) (table : List (Option Inode))
     naming : (number : ℕ) (inode : Inode) → number < g.inodes → get_or table number None ≡ Some inode
         → inode.kind ≡ Directory
         → times (flat_map (λ n. for_directories table n (names n)) (range_with_len 0 g.inodes)) number
-        ≡ count_by (λ (e : List ℕ × DirectoryEntry). is_directory_at (node_at (tree_of g blocks) e.1.number))
+        ≡ count_by (λ (e : List ℕ × DirentValue). is_directory_at (node_at (tree_of g blocks) e.1.number))
         (named_in g.inodes content inode)
     naming number inode less is kind =
         counts (λ one. nat_eq one number) (λ n. for_directories table n (names n)) (range_with_len 0 g.inodes)

@@ -24,12 +24,12 @@ use Rattle.layout.specs.Places.{inode_block, inode_offset}
 use Rattle.layout.proofs.Fits.{part-length, read_fits}
 use Rattle.layout.proofs.WrittenBytes.{dropped, taken}
 use Rattle.inode.proofs.AllTests.{all_five, all_three, all_two, no_more}
-use Rattle.image_read.specs.Tallies.Led.{led}
+use Rattle.image_read.specs.ImageCounts.Iterated.{iterated}
 use Rattle.image_read.specs.Laws.TreeOf.{tree_of}
 use Rattle.image_read.specs.Laws.Whole.{named}
 use Rattle.image_read.proofs.LawsLemmas.Made.{files_are}
 use Rattle.image_read.proofs.LawsLemmas.SoundKinds.{parent_inside}
-use Rattle.image_read.proofs.LawsLemmas.Reached.{as_led}
+use Rattle.image_read.proofs.LawsLemmas.Reached.{as_iterated}
 use Rattle.image_read.specs.declared.counts.links.Links.{Links}
 use Rattle.image_read.specs.Counts.Linked.{is_directory_kind, parent_below}
 use Rattle.image_read.proofs.CountsLemmas.Parents as parents
@@ -74,10 +74,10 @@ module _ (g : Geometry) (blocks : Image) where
       (inode : Inode) (is : table_of g blocks number ≡ Ok (Some inode)) where
     on_disk : inode_block g number < g.blocks
     on_disk =
-        let room = g.lawful.1.3 in
+        let has_space = g.lawful.1.3 in
         let whole = g.lawful.1.2 in
         let less = below number inode is in
-        omega (arith, room, less, whole)
+        omega (arith, has_space, less, whole)
 
     part_bytes : (len from : ℕ) (part : List ℕ) → AreBytes part → AreBytes (take len (drop from part))
     part_bytes len from part are = (taken len (dropped from (record { are = are }))).are
@@ -164,8 +164,8 @@ module _ (g : Geometry) (blocks : Image) (table : List (Option Inode)) (links : 
 
   -- so steps lead to the same numbers
   pub ancestor_is : (steps number : ℕ) → number < g.inodes
-      → ancestor (tree_of g blocks) steps number ≡ led (parents.up table) steps number
+      → ancestor (tree_of g blocks) steps number ≡ iterated (parents.up table) steps number
   ancestor_is steps number less =
-      as_led (tree_of g blocks) steps number
-      ∙ parents.led_same (λ n. parent_in (node_at (tree_of g blocks) n)) (parents.up table) g.inodes up_within up_same
+      as_iterated (tree_of g blocks) steps number
+      ∙ parents.iterated_same (λ n. parent_in (node_at (tree_of g blocks) n)) (parents.up table) g.inodes up_within up_same
       steps number less

@@ -12,8 +12,8 @@ use Rattle.layout.specs.declared.inode.InodeKind.{InodeKind}
 use Rattle.layout.specs.declared.inode.InodeKind.TheVariants.{Directory, Link, Regular}
 use Rattle.layout.specs.Owners.{is_used}
 use Rattle.layout.specs.Parts.{content_in, table_of}
-use Rattle.image_read.specs.Tallies.Led.{led}
-use Rattle.image_read.specs.Tallies.Tally.{times}
+use Rattle.image_read.specs.ImageCounts.Iterated.{iterated}
+use Rattle.image_read.specs.ImageCounts.Tally.{times}
 use Rattle.image_read.specs.Laws.TreeOf.{named_of}
 use Rattle.image_read.specs.Laws.Whole.{IsWhole, named}
 use Rattle.image_read.specs.declared.counts.links.Links.{Links}
@@ -94,7 +94,7 @@ module _ (g : Geometry) (blocks : Image) (table : List (Option Inode)) (links : 
       omega (arith, none, count)
 
   leads : (number : ℕ) → number < g.inodes → (o : Option Inode) → table_of g blocks number ≡ Ok o
-      → is_directory_in o ≡ true → (steps : ℕ) × (led (up table) steps number ≡ ROOT)
+      → is_directory_in o ≡ true → (steps : ℕ) × (iterated (up table) steps number ≡ ROOT)
   leads number less (Some inode) is directory =
       let found = (whole.directories number inode is (is_kind inode.kind directory)).reached in
       (found.0, sym (ancestor_is g blocks table links bytes counted found.0 number less) ∙ found.1)

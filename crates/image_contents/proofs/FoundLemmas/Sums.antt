@@ -5,7 +5,7 @@ use Rattle.std.specs.List.{flat_map, range_with_len}
 use Rattle.std.proofs.lemmas.Bool.{cases_eq, eq-eqb, ne_eqb}
 use Rattle.std.proofs.lemmas.List.Sums.{sum_by-append, sum_by-cons}
 use Rattle.bitmap.proofs.Ranges.{nothing, one_if, same_sums}
-use Rattle.image_read.specs.Tallies.Tally.{times}
+use Rattle.image_read.specs.ImageCounts.Tally.{times}
 
 pub same_flat : (f h : ℕ → List ℕ) (a k : ℕ) → ((n : ℕ) → n < a + k → f n ≡ h n)
     → flat_map f (range_with_len a k) ≡ flat_map h (range_with_len a k)

@@ -6,7 +6,7 @@ use Rattle.base.specs.declared.TheConstants.{BLOCK_BYTES, MOST_LINKS, ROOT}
 use Rattle.disk.specs.Crash.{Image}
 use Rattle.nfs_types.specs.Fits.{AreBytes}
 use Rattle.nfs_spec.specs.Model.Names.{ancestor, is_directory_at}
-use Rattle.nfs_spec.specs.Model.Node.{DirectoryEntry}
+use Rattle.nfs_spec.specs.Model.Node.{DirentValue}
 use Rattle.nfs_spec.specs.Model.Tree.{node_at}
 use Rattle.layout.specs.declared.fault.LayoutFault.{LayoutFault}
 use Rattle.layout.specs.declared.geometry.Geometry.{Geometry}
@@ -16,7 +16,7 @@ use Rattle.layout.specs.declared.inode.InodeKind.TheVariants.{Directory, Link, R
 use Rattle.layout.specs.Decode.{IsFile, named_in}
 use Rattle.layout.specs.Owners.{is_used}
 use Rattle.layout.specs.Parts.{content_in, parts_of, table_of}
-use Rattle.image_read.specs.Tallies.Tally.{times}
+use Rattle.image_read.specs.ImageCounts.Tally.{times}
 use Rattle.image_read.specs.Laws.TreeOf.{HasNames, named_numbers, named_of, tree_of}
 use Rattle.image_read.specs.Laws.Whole as whole
 use Rattle.image_read.specs.Laws.Whole.{IsWhole, named}
@@ -106,7 +106,7 @@ module _ (g : Geometry) (blocks : Image) (table : List (Option Inode)) (links : 
       mine = subst (IsLinkedFile (length table) links number inode) kind (linked_at number less (Some inode) is)
 
       abbrev children : ℕ
-      children = count_by (λ (e : List ℕ × DirectoryEntry). is_directory_at (node_at (tree_of g blocks) e.1.number))
+      children = count_by (λ (e : List ℕ × DirentValue). is_directory_at (node_at (tree_of g blocks) e.1.number))
           (named_in g.inodes (content_in g blocks) inode)
 
       children_are : inode.nlink ≡ 2 + children

@@ -11,7 +11,7 @@ use Rattle.layout.specs.Stands.{Stands}
 use Rattle.layout.specs.SuperForm.{IsSuper}
 use Rattle.layout.proofs.OneGeometry.{of_one_block}
 use Rattle.circ.specs.Log.Overlay.{HasHomes, IsInRange, logged_in, over}
-use Rattle.circ.specs.Log.Recovery.{HasOnlyRead, IsUnspoiled, image_of}
+use Rattle.circ.specs.Log.Recovery.{HasOnlyRead, IsCertain, image_of}
 use Rattle.circ.proofs.LogLemmas.OnlyRead.{image_then}
 use Rattle.store_promise.specs.declared.fault.OpenFault.{OpenFault}
 use Rattle.store_promise.specs.declared.fault.OpenFault.TheVariants as fault
@@ -26,24 +26,24 @@ module _ (before : Device) (tree : Tree) (boot : ℕ) (good : IsGoodImage before
   same_image later reads = λ i block. image_then before later reads block i
 
   -- its super block is refused for its boot number alone
-  pub super_refused : (keeps_model : Type 0) (cause : OpenFault) (later : Device) → keeps_model → IsUnspoiled before
+  pub super_refused : (keeps_model : Type 0) (cause : OpenFault) (later : Device) → keeps_model → IsCertain before
       → IsRefusedFor keeps_model cause before later → IsShown tree boot (Err cause)
-  super_refused keeps_model fault.Device later kept clean shows = tt
-  super_refused keeps_model fault.NoMemory later kept clean shows = tt
-  super_refused keeps_model fault.Magic later kept clean shows = elim (shows.1 kept clean) [
+  super_refused keeps_model fault.Device later is_preserved clean shows = tt
+  super_refused keeps_model fault.NoMemory later is_preserved clean shows = tt
+  super_refused keeps_model fault.Magic later is_preserved clean shows = elim (shows.1 is_preserved clean) [
     | inl none ↦ has_blocks before.size (image_of before SUPER_BLOCK) good.super good.is_super good.size_is none
     | inr other ↦ not_magic (image_of before SUPER_BLOCK) good.super good.is_super other
   ]
-  super_refused keeps_model fault.Version later kept clean shows =
-      not_version (image_of before SUPER_BLOCK) good.super good.is_super (shows.1 kept clean)
-  super_refused keeps_model fault.Range later kept clean shows = elim (shows.1 kept clean) [
+  super_refused keeps_model fault.Version later is_preserved clean shows =
+      not_version (image_of before SUPER_BLOCK) good.super good.is_super (shows.1 is_preserved clean)
+  super_refused keeps_model fault.Range later is_preserved clean shows = elim (shows.1 is_preserved clean) [
     | inl other ↦ absurd (not_range (image_of before SUPER_BLOCK) good.super good.is_super other)
     | inr (super, is, inl other) ↦ absurd (other (is.blocks ∙ sym good.is_super.blocks ∙ good.size_is))
     | inr (super, is, inr last) ↦
         let same : super.boot ≡ boot = is.boot ∙ sym good.is_super.boot ∙ good.boot_is in
         omega (arith, last, same)
   ]
-  super_refused keeps_model fault.Log later kept clean shows = (shows.1 kept clean).1 (good.range, good.homes)
+  super_refused keeps_model fault.Log later is_preserved clean shows = (shows.1 is_preserved clean).1 (good.range, good.homes)
 
   -- and its log isn't
   pub log_refused : (later : Device) → HasOnlyRead before later → (cause : OpenFault)

@@ -10,8 +10,8 @@ use Rattle.image_contents.specs.declared.lines.line.Line.{Line}
 use Rattle.image_contents.specs.Lines.Printed.{line_text, lines_text}
 
 -- what was written was printed, however its parts were put together
-pub printed : {E : Type 0} {parts : List ℕ} (told : Result (Unit {0}) E) (a b : Option (List ℕ)) (text : List ℕ)
-    → OnOk told (Appends a b parts) → parts ≡ text → OnOk told (Appends a b text)
+pub printed : {E : Type 0} {parts : List ℕ} (print_result : Result (Unit {0}) E) (a b : Option (List ℕ)) (text : List ℕ)
+    → OnOk print_result (Appends a b parts) → parts ≡ text → OnOk print_result (Appends a b text)
 printed (Ok done) a b text is same = subst (Appends a b) same is
 printed (Err error) a b text is same = tt
 

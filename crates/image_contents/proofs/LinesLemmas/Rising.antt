@@ -9,27 +9,27 @@ use Rattle.nfs_spec.proofs.ModelLemmas.Maps.{entries-empty}
 use Rattle.nfs_spec.specs.Model.Node.{Node}
 use Rattle.image_read.specs.Laws.TreeOf.{files_below, with_file}
 
-abbrev Entry : Type 0
-Entry = ℕ × Node
+abbrev NodePair : Type 0
+NodePair = ℕ × Node
 
 -- each number is below a bound
-abbrev AreBelow : ℕ → List Entry → Type 0
+abbrev AreBelow : ℕ → List NodePair → Type 0
 AreBelow bound [] = Unit {0}
 AreBelow bound (e ∷ es) = (e.0 < bound) × AreBelow bound es
 
 -- what is put under a number above all is the last
-put_last : (k : ℕ) (node : Node) (es : List Entry) → AreBelow k es → put nat_cmp k node es ≡ es ++ (k, node) ∷ []
+put_last : (k : ℕ) (node : Node) (es : List NodePair) → AreBelow k es → put nat_cmp k node es ≡ es ++ (k, node) ∷ []
 put_last k node [] below = refl
 put_last k node (e ∷ es) below =
     ap (λ r. by_order r ((k, node) ∷ e ∷ es) ((e.0, node) ∷ es) (e ∷ put nat_cmp k node es))
     (sym (nat_cmp_is k e.0 Greater below.0))
     ∙ ap (λ rest. e ∷ rest) (put_last k node es below.1)
 
-wider : (k : ℕ) (es : List Entry) → AreBelow k es → AreBelow (suc k) es
+wider : (k : ℕ) (es : List NodePair) → AreBelow k es → AreBelow (suc k) es
 wider k [] below = tt
 wider k (e ∷ es) below = (let less = below.0 in omega (arith, less), wider k es below.1)
 
-one_more : (k : ℕ) (node : Node) (es : List Entry) → AreBelow k es → AreBelow (suc k) (es ++ (k, node) ∷ [])
+one_more : (k : ℕ) (node : Node) (es : List NodePair) → AreBelow k es → AreBelow (suc k) (es ++ (k, node) ∷ [])
 one_more k node [] below = (omega arith, tt)
 one_more k node (e ∷ es) below = (let less = below.0 in omega (arith, less), one_more k node es below.1)
 

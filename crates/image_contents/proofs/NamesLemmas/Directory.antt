@@ -12,7 +12,7 @@ use Rattle.layout.specs.declared.inode.Inode.{Inode}
 use Rattle.layout.specs.declared.slot.Slot.{Slot}
 use Rattle.layout.specs.Decode.{bytes_of, entries_in, named_in, numbers_of, slot_bytes, span_of}
 use Rattle.layout.proofs.Respelled.{all_two}
-use Rattle.nfs_spec.proofs.ProceduresLemmas.Entering.{names_apart}
+use Rattle.nfs_spec.proofs.ProceduresLemmas.NameChanges.{names_apart}
 use Rattle.dir.proofs.Members.{In, in_range, from_range}
 use Rattle.image_read.specs.Files.Slots.{in_use, slot_at, used_slots}
 use Rattle.image_read.specs.Laws.TreeOf.{HasNames}

@@ -12,7 +12,7 @@ use Rattle.layout.specs.Decode.{IsMapped, bytes_of, numbers_of}
 use Rattle.layout.specs.Fields.{is_zeros}
 use Rattle.layout.specs.InodeForm.{SoundInode}
 use Rattle.layout.specs.Owners.{owned_by}
-use Rattle.image_read.specs.Tallies.Tally.{IsOwned}
+use Rattle.image_read.specs.ImageCounts.Tally.{IsOwned}
 use Rattle.image_read.specs.Files.Slots.{IsSpanned}
 use Rattle.image_read.specs.declared.counts.links.Links.{Links}
 use Rattle.image_read.specs.Counts.Linked.{HasCounts}
@@ -40,20 +40,20 @@ HasBlocks g content (Some inode) = HasBlocksOf g content inode.kind inode
 HasBlocks g content None = Unit {0}
 
 -- nothing lies past a file's size, and the names in a directory's slots are names, none of them twice
-abbrev pub IsTidyOf : Geometry → Image → InodeKind → Inode → Type 0
-IsTidyOf g content Directory inode = AreNames (slots_of_directory g.inodes content inode)
-IsTidyOf g content Regular inode = is_zeros (drop inode.size (bytes_of content (numbers_of content inode))) ≡ true
-IsTidyOf g content Link inode = is_zeros (drop inode.size (bytes_of content (take 1 inode.direct))) ≡ true
+abbrev pub IsCleanOf : Geometry → Image → InodeKind → Inode → Type 0
+IsCleanOf g content Directory inode = AreNames (slots_of_directory g.inodes content inode)
+IsCleanOf g content Regular inode = is_zeros (drop inode.size (bytes_of content (numbers_of content inode))) ≡ true
+IsCleanOf g content Link inode = is_zeros (drop inode.size (bytes_of content (take 1 inode.direct))) ≡ true
 
-abbrev pub IsTidy : Geometry → Image → Option Inode → Type 0
-IsTidy g content (Some inode) = IsTidyOf g content inode.kind inode
-IsTidy g content None = Unit {0}
+abbrev pub IsClean : Geometry → Image → Option Inode → Type 0
+IsClean g content (Some inode) = IsCleanOf g content inode.kind inode
+IsClean g content None = Unit {0}
 
--- the number of the first untidy file, once one file more was looked at
-abbrev pub first_untidy : Option ℕ → ℕ → Bool → Option ℕ
-first_untidy (Some first) number tidy = Some first
-first_untidy None number true = None
-first_untidy None number false = Some number
+-- the number of the first file that isn't clean, once one file more was looked at
+abbrev pub first_unclean : Option ℕ → ℕ → Bool → Option ℕ
+first_unclean (Some first) number is_clean = Some first
+first_unclean None number true = None
+first_unclean None number false = Some number
 
 -- the inode of a number is sound, if it is a file's
 abbrev pub IsSoundIfAny : Geometry → Option Inode → Type 0
@@ -79,24 +79,24 @@ IsNamed g content table number inode old new =
     (naming ++ for_directories table number (named_of g.inodes content (Ok inode))) new
 
 -- what is told of a file of a kind by what lies in its blocks
-pub record IsLookedAt (g : Geometry) (content : Image) (table : List (Option Inode)) (number : ℕ) (kind : InodeKind)
-    (inode : Inode) (old new : Links) (tidy : Bool) : Type 0 where
+pub record IsScanned (g : Geometry) (content : Image) (table : List (Option Inode)) (number : ℕ) (kind : InodeKind)
+    (inode : Inode) (old new : Links) (is_clean : Bool) : Type 0 where
   pub spans : IsSpannedOf g content kind inode
   pub named : (all met naming : List ℕ) → AreNamed all met naming old
       → AreNamed (all ++ named_numbers g.inodes content kind inode)
       (met ++ named_children table number (named_numbers g.inodes content kind inode))
       (naming ++ for_directories table number (named_numbers g.inodes content kind inode)) new
-  pub yes : tidy ≡ true → IsTidyOf g content kind inode
-  pub no : tidy ≡ false → IsTidyOf g content kind inode → ⊥
+  pub yes : is_clean ≡ true → IsCleanOf g content kind inode
+  pub no : is_clean ≡ false → IsCleanOf g content kind inode → ⊥
 
 -- what the blocks and the slots of the inode of a number add to what was found
 pub record IsAdded (g : Geometry) (content : Image) (table : List (Option Inode)) (number : ℕ) (inode : Option Inode)
     (old new : Found) : Type 0 where
   pub owned : (met : List ℕ) → IsOwned met old.owners → IsOwned (met ++ owned_by content (Ok inode)) new.owners
   pub named : IsNamed g content table number inode old.links new.links
-  pub tidy : new.untidy ≡ None → (old.untidy ≡ None) × IsTidy g content inode
-  pub untidy : (first : ℕ) → new.untidy ≡ Some first → (old.untidy ≡ Some first)
-      ⊎ ((number ≡ first) × (old.untidy ≡ None) × (IsTidy g content inode → ⊥))
+  pub is_clean : new.unclean ≡ None → (old.unclean ≡ None) × IsClean g content inode
+  pub unclean : (first : ℕ) → new.unclean ≡ Some first → (old.unclean ≡ Some first)
+      ⊎ ((number ≡ first) × (old.unclean ≡ None) × (IsClean g content inode → ⊥))
 
 -- the numbers that the first inodes own, and those that their slots name
 abbrev pub all_owned : Image → List (Option Inode) → ℕ → List ℕ
@@ -105,12 +105,12 @@ all_owned content table count = flat_map (λ n. owned_by content (Ok (get_or tab
 abbrev pub names_at : ℕ → Image → List (Option Inode) → ℕ → List ℕ
 names_at inodes content table n = named_of inodes content (Ok (get_or table n None))
 
--- of the first files of a table that of this number isn't tidy, and those of lower numbers are
-pub record IsFirstUntidy (g : Geometry) (content : Image) (table : List (Option Inode))
+-- of the first files of a table that of this number isn't clean, and those of lower numbers are
+pub record IsFirstUnclean (g : Geometry) (content : Image) (table : List (Option Inode))
     (count number : ℕ) : Type 0 where
   pub within : number < count
-  pub is : IsTidy g content (get_or table number None) → ⊥
-  pub first : (lower : ℕ) → lower < number → IsTidy g content (get_or table lower None)
+  pub is : IsClean g content (get_or table number None) → ⊥
+  pub first : (lower : ℕ) → lower < number → IsClean g content (get_or table lower None)
 
 -- this was found in the first files of a table
 pub record IsFound (g : Geometry) (content : Image) (table : List (Option Inode)) (count : ℕ)
@@ -120,5 +120,5 @@ pub record IsFound (g : Geometry) (content : Image) (table : List (Option Inode)
   pub named : AreNamed (flat_map (names_at g.inodes content table) (range_with_len 0 count))
       (flat_map (λ n. named_children table n (names_at g.inodes content table n)) (range_with_len 0 count))
       (flat_map (λ n. for_directories table n (names_at g.inodes content table n)) (range_with_len 0 count)) found.links
-  pub tidy : found.untidy ≡ None → (number : ℕ) → number < count → IsTidy g content (get_or table number None)
-  pub untidy : (number : ℕ) → found.untidy ≡ Some number → IsFirstUntidy g content table count number
+  pub is_clean : found.unclean ≡ None → (number : ℕ) → number < count → IsClean g content (get_or table number None)
+  pub unclean : (number : ℕ) → found.unclean ≡ Some number → IsFirstUnclean g content table count number

@@ -3,14 +3,14 @@ use Rattle.std.specs.Prelude.{◌≡◌, ℕ, ◌+◌, ◌<◌, List, count_by, 
 use Rattle.base.specs.declared.TheConstants.{MOST_LINKS}
 use Rattle.disk.specs.Crash.{Image}
 use Rattle.nfs_spec.specs.Model.Names.{is_directory_at}
-use Rattle.nfs_spec.specs.Model.Node.{DirectoryEntry}
+use Rattle.nfs_spec.specs.Model.Node.{DirentValue}
 use Rattle.nfs_spec.specs.Model.Tree.{node_at}
 use Rattle.layout.specs.declared.geometry.Geometry.{Geometry}
 use Rattle.layout.specs.declared.inode.Inode.{Inode}
 use Rattle.layout.specs.declared.inode.InodeKind.TheVariants.{Directory}
 use Rattle.layout.specs.Decode.{named_in}
 use Rattle.layout.specs.Parts.{content_in, parts_of, table_of}
-use Rattle.image_read.specs.Tallies.Tally.{AreCounts, times}
+use Rattle.image_read.specs.ImageCounts.Tally.{AreCounts, times}
 use Rattle.image_read.specs.Laws.TreeOf.{all_named, named_of, tree_of}
 use Rattle.image_read.specs.declared.counts.links.Links.{Links}
 use Rattle.image_read.specs.Counts.Linked.{HasCounts}
@@ -27,5 +27,5 @@ pub record IsCounted (g : Geometry) (blocks : Image) (table : List (Option Inode
       ≡ min (times (named_of g.inodes (content_in g blocks) (table_of g blocks inode.parent)) number) (MOST_LINKS + 1)
   pub children : (number : ℕ) (inode : Inode) → table_of g blocks number ≡ Ok (Some inode) → inode.kind ≡ Directory
       → get_or links.children number 0
-      ≡ min (count_by (λ (e : List ℕ × DirectoryEntry). is_directory_at (node_at (tree_of g blocks) e.1.number))
+      ≡ min (count_by (λ (e : List ℕ × DirentValue). is_directory_at (node_at (tree_of g blocks) e.1.number))
       (named_in g.inodes (content_in g blocks) inode)) (MOST_LINKS + 1)

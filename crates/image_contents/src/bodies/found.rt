@@ -1,6 +1,6 @@
 //! What is found in the files of an image.
 ghost use Rattle.std.specs.Prelude.{◌≡◌, [], None, IfOk};
-ghost use Rattle.image_read.specs.Tallies.Tally.{IsOwned};
+ghost use Rattle.image_read.specs.ImageCounts.Tally.{IsOwned};
 ghost use Rattle.image_read.specs.Counts.Adds.{AreNamed};
 ghost use Rattle.image_contents.specs.Bodies.Bodies.{FitsFound};
 
@@ -9,12 +9,12 @@ use layout::Geometry;
 use std::alloc::{AllocError, Global};
 
 /// What was found in files: who owns their blocks, the names in their slots, and the lowest number of a file that isn't
-/// tidy: something lies past its size, or of the names in its slots one is no name or stands twice.
+/// clean: something lies past its size, or of the names in its slots one is no name or stands twice.
 #[derive(Drop)]
 pub struct Found {
     pub owners: Owners,
     pub links: Links,
-    pub untidy: Option<u32>,
+    pub unclean: Option<u32>,
 }
 
 impl Found {
@@ -23,7 +23,7 @@ impl Found {
         ensures fits { IfOk result (FitsFound geometry.now) }
         ensures owned { IfOk result (λ found. IsOwned [] found.owners) }
         ensures named { IfOk result (λ found. AreNamed [] [] [] found.links) }
-        ensures tidy { IfOk result (λ found. found.untidy ≡ None) }
+        ensures is_clean { IfOk result (λ found. found.unclean ≡ None) }
     {
         Ok(Found {
             owners: Owners::new(alloc, geometry.blocks)?,
@@ -32,7 +32,7 @@ impl Found {
                 by_parent: Named::new(alloc, geometry.inodes)?,
                 children: Named::new(alloc, geometry.inodes)?,
             },
-            untidy: None,
+            unclean: None,
         })
     }
 }

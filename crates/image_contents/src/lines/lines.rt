@@ -5,10 +5,10 @@ ghost use Rattle.base.specs.declared.TheConstants.{DOUBLE_INDEXES, INDIRECT_INDE
 ghost use Rattle.layout.specs.Decode.{IsMapped, doubled_in, numbers_in, numbers_of};
 ghost use Rattle.layout.specs.Fields.{count_of};
 ghost use Rattle.layout.specs.InodeForm.{SoundInode};
-ghost use Rattle.circ.specs.Log.Recovery.{HasOnlyRead, IsUnspoiled};
+ghost use Rattle.circ.specs.Log.Recovery.{HasOnlyRead, IsCertain};
 ghost use Rattle.image_read.specs.Parts.Table.{CountsPart};
 ghost use Rattle.image_read.specs.Files.Content.{content_on};
-ghost use Rattle.image_read.specs.Files.Far.{IsBelowMapped, IsRowMapped};
+ghost use Rattle.image_read.specs.Files.RowNumbers.{IsBelowMapped, IsRowMapped};
 ghost use Rattle.image_contents.specs.Lines.Lines.{IsCounted, IsCountedIfAny, blocks_in, lines_below, with_line};
 
 use crate::lines::Line;
@@ -33,10 +33,10 @@ pub fn read_lines<D: CrashDisk>(
     ensures reads { HasOnlyRead (D.device disk.old) (D.device disk.new) }
     ensures failure { CountsPart (D.device disk.old) (D.device disk.new) result }
     ensures model { D.keeps_model disk.new → D.keeps_model disk.old }
-    ensures lines { D.keeps_model disk.new → IsUnspoiled (D.device disk.old) → IfOk result (λ lines.
+    ensures lines { D.keeps_model disk.new → IsCertain (D.device disk.old) → IfOk result (λ lines.
         lines.items ≡ lines_below (content_on geometry.now overlay.now (D.device disk.old)) table.now
         (length table.now)) }
-    ensures refused { D.keeps_model disk.new → IsUnspoiled (D.device disk.old)
+    ensures refused { D.keeps_model disk.new → IsCertain (D.device disk.old)
         → IsErrOf result PartFault.Range
         → ((number : ℕ) → number < length table.now → IsCountedIfAny geometry.now
         (content_on geometry.now overlay.now (D.device disk.old)) (get_or table.now number None)) → ⊥ }
@@ -71,9 +71,9 @@ fn push_line<D: CrashDisk>(
     ensures reads { HasOnlyRead (D.device disk.old) (D.device disk.new) }
     ensures failure { CountsPart (D.device disk.old) (D.device disk.new) result }
     ensures model { D.keeps_model disk.new → D.keeps_model disk.old }
-    ensures pushed { D.keeps_model disk.new → IsUnspoiled (D.device disk.old) → OnOk result (lines.new.items
+    ensures pushed { D.keeps_model disk.new → IsCertain (D.device disk.old) → OnOk result (lines.new.items
         ≡ with_line (content_on geometry.now overlay.now (D.device disk.old)) number inode.now lines.old.items) }
-    ensures refused { D.keeps_model disk.new → IsUnspoiled (D.device disk.old)
+    ensures refused { D.keeps_model disk.new → IsCertain (D.device disk.old)
         → IsErrOf result PartFault.Range
         → IsCountedIfAny geometry.now (content_on geometry.now overlay.now (D.device disk.old)) inode.now → ⊥ }
 {
@@ -108,9 +108,9 @@ fn count_blocks<D: CrashDisk>(
     ensures reads { HasOnlyRead (D.device disk.old) (D.device disk.new) }
     ensures failure { CountsPart (D.device disk.old) (D.device disk.new) result }
     ensures model { D.keeps_model disk.new → D.keeps_model disk.old }
-    ensures blocks { D.keeps_model disk.new → IsUnspoiled (D.device disk.old) → IfOk result (λ blocks.
+    ensures blocks { D.keeps_model disk.new → IsCertain (D.device disk.old) → IfOk result (λ blocks.
         blocks ≡ blocks_in (content_on geometry.now overlay.now (D.device disk.old)) inode.now.kind inode.now) }
-    ensures refused { D.keeps_model disk.new → IsUnspoiled (D.device disk.old)
+    ensures refused { D.keeps_model disk.new → IsCertain (D.device disk.old)
         → IsErrOf result PartFault.Range
         → IsCounted geometry.now (content_on geometry.now overlay.now (D.device disk.old)) inode.now.kind inode.now
         → ⊥ }
@@ -135,9 +135,9 @@ fn count_regular<D: CrashDisk>(
     ensures reads { HasOnlyRead (D.device disk.old) (D.device disk.new) }
     ensures failure { CountsPart (D.device disk.old) (D.device disk.new) result }
     ensures model { D.keeps_model disk.new → D.keeps_model disk.old }
-    ensures blocks { D.keeps_model disk.new → IsUnspoiled (D.device disk.old) → IfOk result (λ blocks.
+    ensures blocks { D.keeps_model disk.new → IsCertain (D.device disk.old) → IfOk result (λ blocks.
         blocks ≡ count_of (numbers_of (content_on geometry.now overlay.now (D.device disk.old)) inode.now)) }
-    ensures refused { D.keeps_model disk.new → IsUnspoiled (D.device disk.old) → IsErrOf result PartFault.Range
+    ensures refused { D.keeps_model disk.new → IsCertain (D.device disk.old) → IsErrOf result PartFault.Range
         → SoundInode geometry.now inode.now
         → IsMapped geometry.now (content_on geometry.now overlay.now (D.device disk.old)) inode.now → ⊥ }
 {
@@ -160,9 +160,9 @@ fn count_below<D: CrashDisk>(
     ensures failure { CountsPart (D.device disk.old) (D.device disk.new) result }
     ensures model { D.keeps_model disk.new → D.keeps_model disk.old }
     ensures few { IfOk result (λ blocks. blocks ≤ DOUBLE_INDEXES) }
-    ensures blocks { D.keeps_model disk.new → IsUnspoiled (D.device disk.old) → IfOk result (λ blocks.
+    ensures blocks { D.keeps_model disk.new → IsCertain (D.device disk.old) → IfOk result (λ blocks.
         blocks ≡ count_of (doubled_in (content_on geometry.now overlay.now (D.device disk.old)) double)) }
-    ensures refused { D.keeps_model disk.new → IsUnspoiled (D.device disk.old) → IsErrOf result PartFault.Range
+    ensures refused { D.keeps_model disk.new → IsCertain (D.device disk.old) → IsErrOf result PartFault.Range
         → IsBelowMapped geometry.now (content_on geometry.now overlay.now (D.device disk.old)) double → ⊥ }
 {
     if double == 0 {
@@ -187,9 +187,9 @@ fn count_rows<D: CrashDisk>(
     ensures failure { CountsPart (D.device disk.old) (D.device disk.new) result }
     ensures model { D.keeps_model disk.new → D.keeps_model disk.old }
     ensures few { IfOk result (λ blocks. blocks ≤ DOUBLE_INDEXES) }
-    ensures blocks { D.keeps_model disk.new → IsUnspoiled (D.device disk.old) → IfOk result (λ blocks.
+    ensures blocks { D.keeps_model disk.new → IsCertain (D.device disk.old) → IfOk result (λ blocks.
         blocks ≡ count_of (flat_map (numbers_in (content_on geometry.now overlay.now (D.device disk.old))) inner.now)) }
-    ensures refused { D.keeps_model disk.new → IsUnspoiled (D.device disk.old) → IsErrOf result PartFault.Range
+    ensures refused { D.keeps_model disk.new → IsCertain (D.device disk.old) → IsErrOf result PartFault.Range
         → ((i : ℕ) → i < length inner.now → IsRowMapped geometry.now
         (content_on geometry.now overlay.now (D.device disk.old)) (get_or inner.now i 0)) → ⊥ }
 {
@@ -215,9 +215,9 @@ fn count_row<D: CrashDisk>(
     ensures failure { CountsPart (D.device disk.old) (D.device disk.new) result }
     ensures model { D.keeps_model disk.new → D.keeps_model disk.old }
     ensures few { IfOk result (λ blocks. blocks ≤ INDIRECT_INDEXES) }
-    ensures blocks { D.keeps_model disk.new → IsUnspoiled (D.device disk.old) → IfOk result (λ blocks.
+    ensures blocks { D.keeps_model disk.new → IsCertain (D.device disk.old) → IfOk result (λ blocks.
         blocks ≡ count_of (numbers_in (content_on geometry.now overlay.now (D.device disk.old)) pointer)) }
-    ensures refused { D.keeps_model disk.new → IsUnspoiled (D.device disk.old) → IsErrOf result PartFault.Range
+    ensures refused { D.keeps_model disk.new → IsCertain (D.device disk.old) → IsErrOf result PartFault.Range
         → IsRowMapped geometry.now (content_on geometry.now overlay.now (D.device disk.old)) pointer → ⊥ }
 {
     if pointer == 0 {

@@ -9,17 +9,17 @@ use Rattle.std.proofs.lemmas.List.Concat.{flat_map-append}
 use Rattle.std.proofs.lemmas.List.Elements.{filter-append}
 use Rattle.layout.specs.declared.inode.Inode.{Inode}
 use Rattle.layout.specs.declared.slot.Slot.{Slot}
-use Rattle.image_read.specs.Tallies.Tally.{AreCounts, IsOwned, Owned}
+use Rattle.image_read.specs.ImageCounts.Tally.{AreCounts, IsOwned, Owned}
 use Rattle.image_read.specs.declared.counts.links.Links.{Links}
 use Rattle.layout.proofs.Respelled.{all_two}
 use Rattle.image_read.specs.Counts.Adds.{AreNamed, for_directories, is_none_or_below, is_some, named_children}
 
-pub each_passes : {A : Type 0} (p : A → Bool) (xs : List A) (place : ℕ) (d : A) → list_all p xs ≡ true
-    → place < length xs → p (get_or xs place d) ≡ true
-each_passes p [] place d all less = absurd (omega (arith, less))
+pub each_passes : {A : Type 0} (p : A → Bool) (xs : List A) (index_within : ℕ) (d : A) → list_all p xs ≡ true
+    → index_within < length xs → p (get_or xs index_within d) ≡ true
+each_passes p [] index_within d all less = absurd (omega (arith, less))
 each_passes p (x ∷ xs) zero d all less = (all_two (p x) (list_all p xs) all).0
-each_passes p (x ∷ xs) (suc place) d all less =
-    each_passes p xs place d (all_two (p x) (list_all p xs) all).1 (omega (arith, less))
+each_passes p (x ∷ xs) (suc index_within) d all less =
+    each_passes p xs index_within d (all_two (p x) (list_all p xs) all).1 (omega (arith, less))
 
 -- ---- blocks
 
@@ -44,22 +44,22 @@ module _ (met : List ℕ) where
         → IsOwned (met ++ filter is_some (indirect ∷ take 0 numbers)) owners
     first_blocks owned = owned
 
-    pub more_blocks : (place : ℕ) → place < length numbers
-        → IsOwned ((met ++ filter is_some (indirect ∷ take place numbers))
-        ++ filter is_some (get_or numbers place 0 ∷ []))
-        owners → IsOwned (met ++ filter is_some (indirect ∷ take (place + 1) numbers)) owners
-    more_blocks place less owned =
+    pub more_blocks : (index_within : ℕ) → index_within < length numbers
+        → IsOwned ((met ++ filter is_some (indirect ∷ take index_within numbers))
+        ++ filter is_some (get_or numbers index_within 0 ∷ []))
+        owners → IsOwned (met ++ filter is_some (indirect ∷ take (index_within + 1) numbers)) owners
+    more_blocks index_within less owned =
         subst (λ l. IsOwned l owners)
-        (append_assoc met (filter is_some (indirect ∷ take place numbers))
-        (filter is_some (get_or numbers place 0 ∷ []))
-        ∙ ap (λ l. met ++ l) (sym (filter-append is_some (indirect ∷ take place numbers) (get_or numbers place 0 ∷ [])))
-        ∙ ap (λ l. met ++ filter is_some (indirect ∷ l)) (sym (take_more numbers place 0 less))) owned
+        (append_assoc met (filter is_some (indirect ∷ take index_within numbers))
+        (filter is_some (get_or numbers index_within 0 ∷ []))
+        ∙ ap (λ l. met ++ l) (sym (filter-append is_some (indirect ∷ take index_within numbers) (get_or numbers index_within 0 ∷ [])))
+        ∙ ap (λ l. met ++ filter is_some (indirect ∷ l)) (sym (take_more numbers index_within 0 less))) owned
 
-    pub all_blocks : (place : ℕ) → length numbers ≤ place
-        → IsOwned (met ++ filter is_some (indirect ∷ take place numbers)) owners
+    pub all_blocks : (index_within : ℕ) → length numbers ≤ index_within
+        → IsOwned (met ++ filter is_some (indirect ∷ take index_within numbers)) owners
         → IsOwned (met ++ filter is_some (indirect ∷ numbers)) owners
-    all_blocks place past owned =
-        subst (λ l. IsOwned (met ++ filter is_some (indirect ∷ l)) owners) (take_all place numbers past) owned
+    all_blocks index_within past owned =
+        subst (λ l. IsOwned (met ++ filter is_some (indirect ∷ l)) owners) (take_all index_within numbers past) owned
 
 -- ---- names
 
@@ -100,13 +100,13 @@ module _ (names by_parent children : List ℕ) (table : List (Option Inode)) (di
     children = subst (λ l. AreCounts l links.children) (both _ children numbers number) named.children;
   }
 
-  pub all_named : (slots : List Slot) (place : ℕ) (links : Links) → length slots ≤ place
-      → AreNamedToo (map number_of (take place slots)) links → AreNamedToo (map number_of slots) links
-  all_named slots place links past named =
-      subst (λ l. AreNamedToo (map number_of l) links) (take_all place slots past) named
+  pub all_named : (slots : List Slot) (index_within : ℕ) (links : Links) → length slots ≤ index_within
+      → AreNamedToo (map number_of (take index_within slots)) links → AreNamedToo (map number_of slots) links
+  all_named slots index_within links past named =
+      subst (λ l. AreNamedToo (map number_of l) links) (take_all index_within slots past) named
 
 -- the numbers of the first slots, and of one more
-pub numbers_more : (slots : List Slot) (place : ℕ) (d : Slot) → place < length slots
-    → map number_of (take (place + 1) slots) ≡ map number_of (take place slots) ++ (get_or slots place d).number ∷ []
-numbers_more slots place d less =
-    ap (map number_of) (take_more slots place d less) ∙ map_both (take place slots) (get_or slots place d ∷ [])
+pub numbers_more : (slots : List Slot) (index_within : ℕ) (d : Slot) → index_within < length slots
+    → map number_of (take (index_within + 1) slots) ≡ map number_of (take index_within slots) ++ (get_or slots index_within d).number ∷ []
+numbers_more slots index_within d less =
+    ap (map number_of) (take_more slots index_within d less) ∙ map_both (take index_within slots) (get_or slots index_within d ∷ [])

@@ -9,8 +9,8 @@ use Rattle.base.specs.declared.TheConstants.{ROOT}
 use Rattle.layout.specs.declared.inode.Inode.{Inode}
 use Rattle.layout.specs.declared.inode.InodeKind.{InodeKind}
 use Rattle.layout.specs.declared.inode.InodeKind.TheVariants.{Directory, Link, Regular}
-use Rattle.image_read.specs.Tallies.Led.{AreLedFar, in_list, led}
-use Rattle.image_read.proofs.TalliesLemmas.Doubled.{there_by}
+use Rattle.image_read.specs.ImageCounts.Iterated.{AreFurthest, in_list, iterated}
+use Rattle.image_read.proofs.ImageCountsLemmas.Doubled.{there_by}
 use Rattle.image_read.specs.declared.counts.links.Links.{Links}
 use Rattle.image_read.specs.Counts.Linked.{IsLinked, IsLinkedFile, IsRoot, is_directory_kind}
 use Rattle.image_read.specs.Counts.Linked.{parent_below}
@@ -56,42 +56,42 @@ module _ (size : ℕ) (links : Links) where
 
 -- ---- steps
 
-pub led_same : (f h : ℕ → ℕ) (size : ℕ) → ((n : ℕ) → n < size → f n < size) → ((n : ℕ) → n < size → f n ≡ h n)
-    → (steps n : ℕ) → n < size → led f steps n ≡ led h steps n
-unfolding led
-led_same f h size within same zero n inside = refl
-led_same f h size within same (suc steps) n inside =
-    led_same f h size within same steps (f n) (within n inside) ∙ ap (led h steps) (same n inside)
+pub iterated_same : (f h : ℕ → ℕ) (size : ℕ) → ((n : ℕ) → n < size → f n < size) → ((n : ℕ) → n < size → f n ≡ h n)
+    → (steps n : ℕ) → n < size → iterated f steps n ≡ iterated h steps n
+unfolding iterated
+iterated_same f h size within same zero n inside = refl
+iterated_same f h size within same (suc steps) n inside =
+    iterated_same f h size within same steps (f n) (within n inside) ∙ ap (iterated h steps) (same n inside)
 
 module _ (table : List (Option Inode)) where
   abbrev pub up : ℕ → ℕ
   up n = parent_below (length table) (get_or table n None)
 
-  module _ (parents far : List ℕ) (long : length parents ≡ length table)
-      (are : (n : ℕ) → n < length table → in_list parents n ≡ up n) (led_far : AreLedFar parents far) where
+  module _ (parents furthest : List ℕ) (long : length parents ≡ length table)
+      (are : (n : ℕ) → n < length table → in_list parents n ≡ up n) (furthest_of : AreFurthest parents furthest) where
     within : (n : ℕ) → n < length table → in_list parents n < length table
     within n inside =
         subst (λ p. p < length table) (sym (are n inside))
         (below (length table) (get_or table n None) (omega (arith, inside)))
 
-    far_is : (n : ℕ) → n < length table → in_list far n ≡ led up led_far.0 n
-    far_is n inside =
-        led_far.2 n (omega (arith, inside, long))
-        ∙ led_same (in_list parents) up (length table) within are led_far.0 n inside
+    furthest_is : (n : ℕ) → n < length table → in_list furthest n ≡ iterated up furthest_of.0 n
+    furthest_is n inside =
+        furthest_of.2 n (omega (arith, inside, long))
+        ∙ iterated_same (in_list parents) up (length table) within are furthest_of.0 n inside
 
     -- where the root stands at the place of a directory, steps lead from it to the root
-    pub leads : (n : ℕ) → n < length table → in_list far n ≡ ROOT → (steps : ℕ) × (led up steps n ≡ ROOT)
-    leads n inside root = (led_far.0, sym (far_is n inside) ∙ root)
+    pub leads : (n : ℕ) → n < length table → in_list furthest n ≡ ROOT → (steps : ℕ) × (iterated up steps n ≡ ROOT)
+    leads n inside root = (furthest_of.0, sym (furthest_is n inside) ∙ root)
 
     -- and the root stands there, where any steps lead to it
-    pub led_there : up ROOT ≡ ROOT → (n : ℕ) → n < length table → (steps : ℕ) × (led up steps n ≡ ROOT)
-        → in_list far n ≡ ROOT
-    led_there fixed n inside reached =
-        let some = led_far.1 in
-        far_is n inside
+    pub is_connected : up ROOT ≡ ROOT → (n : ℕ) → n < length table → (steps : ℕ) × (iterated up steps n ≡ ROOT)
+        → in_list furthest n ≡ ROOT
+    is_connected fixed n inside reached =
+        let some = furthest_of.1 in
+        furthest_is n inside
         ∙ there_by up ROOT n (length table)
         (λ m less. below (length table) (get_or table m None) (omega (arith, less))) inside fixed reached.0 reached.1
-        led_far.0 (omega (arith, some, long))
+        furthest_of.0 (omega (arith, some, long))
 
 -- ---- parents, one after another
 

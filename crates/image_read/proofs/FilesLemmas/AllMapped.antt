@@ -13,7 +13,7 @@ use Rattle.layout.specs.Places.{is_data}
 use Rattle.layout.proofs.FileNumbers.{all_pass, parts_pass, pass_pointers, pointers_pass}
 use Rattle.layout.proofs.NumbersIn.{doubled_pass, in_length, no_double_pass, none_pass}
 use Rattle.layout.proofs.Respelled.{all_two}
-use Rattle.image_read.specs.Files.Far.{IsBelowMapped, IsNearMapped, IsRowMapped}
+use Rattle.image_read.specs.Files.RowNumbers.{IsBelowMapped, IsMappedBeforeDouble, IsRowMapped}
 use Rattle.image_read.proofs.FilesLemmas.Data.{each_passes, is_some}
 
 all_each : (p : ℕ → Bool) (xs : List ℕ) → ((i : ℕ) → i < length xs → p (get_or xs i 0) ≡ true) → list_all p xs ≡ true
@@ -81,23 +81,23 @@ module _ (g : Geometry) (content : Image) where
   -- ---- a file
 
   module _ (inode : Inode) where
-    pub near_mapped : list_all placed inode.direct ≡ true → IsRowMapped g content inode.indirect
-        → IsNearMapped g content inode
-    near_mapped near row = record {
+    pub mapped_before_double : list_all placed inode.direct ≡ true → IsRowMapped g content inode.indirect
+        → IsMappedBeforeDouble g content inode
+    mapped_before_double direct_part row = record {
       indirect = row.lies;
       numbers =
           list_all-append placed inode.direct (numbers_in content inode.indirect)
-          ∙ (λ i. near i && row.placed i);
+          ∙ (λ i. direct_part i && row.placed i);
       used = row.used;
     }
 
-    module _ (mapped : IsNearMapped g content inode) where
+    module _ (mapped : IsMappedBeforeDouble g content inode) where
       both_mapped : (list_all placed inode.direct ≡ true) × (list_all placed (numbers_in content inode.indirect) ≡ true)
       both_mapped = all_two (list_all placed inode.direct) (list_all placed (numbers_in content inode.indirect))
           (sym (list_all-append placed inode.direct (numbers_in content inode.indirect)) ∙ mapped.numbers)
 
-      pub mapped_near : list_all placed inode.direct ≡ true
-      mapped_near = both_mapped.0
+      pub mapped_direct : list_all placed inode.direct ≡ true
+      mapped_direct = both_mapped.0
 
       pub mapped_row : IsRowMapped g content inode.indirect
       mapped_row = record { lies = mapped.indirect; placed = both_mapped.1; used = mapped.used }
@@ -126,9 +126,9 @@ module _ (g : Geometry) (content : Image) where
           × (list_all (is_used_pointer content) (numbers_in content inode.double) ≡ true)
       used = pointers_pass content inode (is_used_pointer content) mapped.used
 
-      pub near_of_mapped : IsNearMapped g content inode
-      near_of_mapped =
-          near_mapped parts.0 (record { lies = pointers.0; placed = parts.1; used = used.0 })
+      pub before_double_of_mapped : IsMappedBeforeDouble g content inode
+      before_double_of_mapped =
+          mapped_before_double parts.0 (record { lies = pointers.0; placed = parts.1; used = used.0 })
 
       pub below_of_mapped : IsBelowMapped g content inode.double
       below_of_mapped = record {

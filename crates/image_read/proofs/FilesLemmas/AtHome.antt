@@ -35,10 +35,10 @@ module _ (g : Geometry) (image : Image) where
   pub same_inode : (number : ℕ) → number < g.inodes → inode_at g homes number ≡ inode_at g image number
   unfolding inode_at
   same_inode number less =
-      let room = g.lawful.1.3 in
+      let has_space = g.lawful.1.3 in
       let whole = g.lawful.1.2 in
       ap (λ bytes. read_inode g (take INODE_BYTES (drop (inode_offset number) bytes)))
-      (home_is g.blocks (inode_block g number) image (omega arith) (omega (arith, room, less, whole)))
+      (home_is g.blocks (inode_block g number) image (omega arith) (omega (arith, has_space, less, whole)))
 
   pub in_table : (number : ℕ) → number < g.inodes → table_of g homes number ≡ inode_at g image number
   in_table number less =

@@ -23,12 +23,12 @@ both : (a b : Bool) → a ≡ true → b ≡ true → (a && b) ≡ true
 both a b one other = λ i. one i && other i
 
 -- what passes a test each does
-pub each_passes : (p : ℕ → Bool) (xs : List ℕ) (place : ℕ) → list_all p xs ≡ true → place < length xs
-    → p (get_or xs place 0) ≡ true
-each_passes p [] place all less = absurd (omega (arith, less))
+pub each_passes : (p : ℕ → Bool) (xs : List ℕ) (index_within : ℕ) → list_all p xs ≡ true → index_within < length xs
+    → p (get_or xs index_within 0) ≡ true
+each_passes p [] index_within all less = absurd (omega (arith, less))
 each_passes p (x ∷ xs) zero all less = (all_two (p x) (list_all p xs) all).0
-each_passes p (x ∷ xs) (suc place) all less =
-    each_passes p xs place (all_two (p x) (list_all p xs) all).1 (omega (arith, less))
+each_passes p (x ∷ xs) (suc index_within) all less =
+    each_passes p xs index_within (all_two (p x) (list_all p xs) all).1 (omega (arith, less))
 
 pub first_pass : (p : ℕ → Bool) (count : ℕ) (xs : List ℕ) → list_all p xs ≡ true → list_all p (take count xs) ≡ true
 first_pass p count xs all =

@@ -13,7 +13,7 @@ use Rattle.layout.specs.Parts.{content_in}
 use Rattle.layout.specs.Places.{is_data}
 use Rattle.layout.proofs.NumbersIn.{in_length, none_in, some_in}
 use Rattle.inode.proofs.InodeThere.{data_of}
-use Rattle.image_read.specs.Files.Far.{AreFar, IsRowMapped, near_of}
+use Rattle.image_read.specs.Files.RowNumbers.{AreRowNumbers, IsRowMapped, numbers_before_double}
 use Rattle.image_read.proofs.FilesLemmas.Data.{as_image, is_some, some_number}
 
 -- a number is 0 or not
@@ -46,7 +46,7 @@ module _ (g : Geometry) (image : Image) where
   -- ---- a block that holds numbers
 
   module _ (pointer : ℕ) where
-    module _ (numbers : List ℕ) (are : AreFar g image pointer numbers) where
+    module _ (numbers : List ℕ) (are : AreRowNumbers g image pointer numbers) where
       pub row_numbers : numbers_in content pointer ≡ numbers
       row_numbers =
           some_in content pointer (some_number g pointer are.lies)
@@ -60,9 +60,9 @@ module _ (g : Geometry) (image : Image) where
       }
 
     -- and back
-    pub far_of_row : nat_eq pointer 0 ≡ false → IsRowMapped g content pointer
-        → AreFar g image pointer (numbers_at INDIRECT_INDEXES 0 (image pointer))
-    far_of_row some row =
+    pub numbers_of_row : nat_eq pointer 0 ≡ false → IsRowMapped g content pointer
+        → AreRowNumbers g image pointer (numbers_at INDIRECT_INDEXES 0 (image pointer))
+    numbers_of_row some row =
         let lies = data_of (nat_eq pointer 0) (is_data g pointer) some row.lies in
         let inside : numbers_in content pointer ≡ numbers_at INDIRECT_INDEXES 0 (image pointer) =
         some_in content pointer some ∙ ap (numbers_at INDIRECT_INDEXES 0) (as_image g image pointer lies) in
@@ -80,8 +80,8 @@ module _ (g : Geometry) (image : Image) where
 
   module _ (inode : Inode) where
     -- without an indirect block they are its own, and zeros
-    pub near_numbers : nat_eq inode.indirect 0 ≡ true
-        → inode.direct ++ replicate INDIRECT_INDEXES 0 ≡ near_of content inode
-    near_numbers none =
+    pub numbers_without_indirect : nat_eq inode.indirect 0 ≡ true
+        → inode.direct ++ replicate INDIRECT_INDEXES 0 ≡ numbers_before_double content inode
+    numbers_without_indirect none =
         sym (ap (λ l. inode.direct ++ l) (none_in content inode.indirect none
         ∙ ap (λ n. replicate n 0) (in_length content inode.indirect)))

@@ -11,12 +11,12 @@ module _ (content : Image) where
   abbrev pub rows_of : List ℕ → ℕ → List ℕ
   rows_of inner count = flat_map (numbers_in content) (take count inner)
 
-  pub rows_more : (inner : List ℕ) (place : ℕ) → place < length inner
-      → rows_of inner (place + 1) ≡ rows_of inner place ++ numbers_in content (get_or inner place 0)
-  rows_more inner place less =
-      ap (flat_map (numbers_in content)) (take_more inner place 0 less)
-      ∙ flat_map-append (numbers_in content) (take place inner) (get_or inner place 0 ∷ [])
-      ∙ ap (λ l. rows_of inner place ++ l) (append-nil (numbers_in content (get_or inner place 0)))
+  pub rows_more : (inner : List ℕ) (index_within : ℕ) → index_within < length inner
+      → rows_of inner (index_within + 1) ≡ rows_of inner index_within ++ numbers_in content (get_or inner index_within 0)
+  rows_more inner index_within less =
+      ap (flat_map (numbers_in content)) (take_more inner index_within 0 less)
+      ∙ flat_map-append (numbers_in content) (take index_within inner) (get_or inner index_within 0 ∷ [])
+      ∙ ap (λ l. rows_of inner index_within ++ l) (append-nil (numbers_in content (get_or inner index_within 0)))
 
   -- all of them are what a double indirect block reaches
   pub all_rows : (double : ℕ) → flat_map (numbers_in content) (numbers_in content double) ≡ doubled_in content double

@@ -112,11 +112,11 @@ module _ (inodes : ℕ) (block : List ℕ) where
       zero_add : (count : ℕ) → 0 + count ≡ count
       zero_add count = omega arith
 
-  pub refused_there : (count place : ℕ) (bytes : List ℕ) → place < count
-      → bytes ≡ take SLOT_BYTES (drop (SLOT_BYTES * place) block) → (IsOk (read_slot inodes bytes) → ⊥)
+  pub refused_there : (count index_within : ℕ) (bytes : List ℕ) → index_within < count
+      → bytes ≡ take SLOT_BYTES (drop (SLOT_BYTES * index_within) block) → (IsOk (read_slot inodes bytes) → ⊥)
       → AreSlots inodes block count → ⊥
-  refused_there count place bytes less is refused are =
-      refused (subst (λ r. IsOk r) (sym (ap (read_slot inodes) is)) (are place less))
+  refused_there count index_within bytes less is refused are =
+      refused (subst (λ r. IsOk r) (sym (ap (read_slot inodes) is)) (are index_within less))
 
 module _ (inodes : ℕ) (content : Image) (long : (number : ℕ) → length (content number) ≡ BLOCK_BYTES)
     (numbers : List ℕ) where
@@ -127,53 +127,53 @@ module _ (inodes : ℕ) (content : Image) (long : (number : ℕ) → length (con
   unfolding used_slots
   no_slots = record { are = λ index less. absurd (omega (arith, less)); used = refl }
 
-  module _ (place : ℕ) (less : place < length numbers) (block : List ℕ)
-      (is : block ≡ content_of content (get_or numbers place 0)) where
+  module _ (index_within : ℕ) (less : index_within < length numbers) (block : List ℕ)
+      (is : block ≡ content_of content (get_or numbers index_within 0)) where
     -- a slot is that of its place in its block
     there : (slot : ℕ) → slot < SLOTS_PER_BLOCK
-        → slot_at inodes all (SLOTS_PER_BLOCK * place + slot) ≡ slot_at inodes block slot
+        → slot_at inodes all (SLOTS_PER_BLOCK * index_within + slot) ≡ slot_at inodes block slot
     unfolding bytes_of
     there slot within =
-        let offset : SLOT_BYTES * (SLOTS_PER_BLOCK * place + slot) ≡ BLOCK_BYTES * place + SLOT_BYTES * slot = omega arith in
+        let offset : SLOT_BYTES * (SLOTS_PER_BLOCK * index_within + slot) ≡ BLOCK_BYTES * index_within + SLOT_BYTES * slot = omega arith in
         ap (λ k. read_slot inodes (take SLOT_BYTES (drop k (bytes_of content numbers)))) offset
-        ∙ ap (read_slot inodes) (in_block content long numbers place (SLOT_BYTES * slot) SLOT_BYTES less
+        ∙ ap (read_slot inodes) (in_block content long numbers index_within (SLOT_BYTES * slot) SLOT_BYTES less
         (omega (arith, within)))
         ∙ ap (λ b. slot_at inodes b slot) (sym is)
 
-    pub more_slots : (old new : List Slot) → HasSlots inodes all (SLOTS_PER_BLOCK * place) old
-        → ArePushed inodes block SLOTS_PER_BLOCK old new → HasSlots inodes all (SLOTS_PER_BLOCK * (place + 1)) new
+    pub more_slots : (old new : List Slot) → HasSlots inodes all (SLOTS_PER_BLOCK * index_within) old
+        → ArePushed inodes block SLOTS_PER_BLOCK old new → HasSlots inodes all (SLOTS_PER_BLOCK * (index_within + 1)) new
     unfolding used_slots
     more_slots old new before pushed =
         let f : ℕ → Option Slot = λ index. in_use (slot_at inodes all index) in
         let h : ℕ → Option Slot = λ index. in_use (slot_at inodes block index) in
-        let count : SLOTS_PER_BLOCK * (place + 1) ≡ SLOTS_PER_BLOCK * place + SLOTS_PER_BLOCK = omega arith in
+        let count : SLOTS_PER_BLOCK * (index_within + 1) ≡ SLOTS_PER_BLOCK * index_within + SLOTS_PER_BLOCK = omega arith in
         record {
-          are = λ index within. elim (cases_lt index (SLOTS_PER_BLOCK * place)) [
+          are = λ index within. elim (cases_lt index (SLOTS_PER_BLOCK * index_within)) [
             | inl sooner ↦ before.are index sooner
             | inr past ↦
-                let slot : ℕ = index - SLOTS_PER_BLOCK * place in
+                let slot : ℕ = index - SLOTS_PER_BLOCK * index_within in
                 let small : slot < SLOTS_PER_BLOCK = omega (arith, within, past) in
-                let at : SLOTS_PER_BLOCK * place + slot ≡ index = omega (arith, past) in
+                let at : SLOTS_PER_BLOCK * index_within + slot ≡ index = omega (arith, past) in
                 subst (λ r. IsOk r) (sym (there slot small) ∙ ap (slot_at inodes all) at) (pushed.are slot small)
           ];
           used =
               pushed.used ∙ ap (λ l. l ++ used_slots inodes block SLOTS_PER_BLOCK) before.used
-              ∙ ap (λ l. used_slots inodes all (SLOTS_PER_BLOCK * place) ++ l)
-              (sym (same_used f h (0 + SLOTS_PER_BLOCK * place) 0 SLOTS_PER_BLOCK (λ i within.
-              ap f (moved place i) ∙ ap in_use (there i within) ∙ ap h (same_place i))))
+              ∙ ap (λ l. used_slots inodes all (SLOTS_PER_BLOCK * index_within) ++ l)
+              (sym (same_used f h (0 + SLOTS_PER_BLOCK * index_within) 0 SLOTS_PER_BLOCK (λ i within.
+              ap f (moved index_within i) ∙ ap in_use (there i within) ∙ ap h (index_from_zero i))))
               ∙ sym (ap (λ n. filter_map f (range_with_len 0 n)) count
-              ∙ ap (filter_map f) (range_both 0 (SLOTS_PER_BLOCK * place) SLOTS_PER_BLOCK)
-              ∙ filter_map-append f (range_with_len 0 (SLOTS_PER_BLOCK * place))
-              (range_with_len (0 + SLOTS_PER_BLOCK * place) SLOTS_PER_BLOCK));
+              ∙ ap (filter_map f) (range_both 0 (SLOTS_PER_BLOCK * index_within) SLOTS_PER_BLOCK)
+              ∙ filter_map-append f (range_with_len 0 (SLOTS_PER_BLOCK * index_within))
+              (range_with_len (0 + SLOTS_PER_BLOCK * index_within) SLOTS_PER_BLOCK));
         }
       where
-        moved : (place i : ℕ) → 0 + SLOTS_PER_BLOCK * place + i ≡ SLOTS_PER_BLOCK * place + i
-        moved place i = omega arith
+        moved : (index_within i : ℕ) → 0 + SLOTS_PER_BLOCK * index_within + i ≡ SLOTS_PER_BLOCK * index_within + i
+        moved index_within i = omega arith
 
-        same_place : (i : ℕ) → i ≡ 0 + i
-        same_place i = omega arith
+        index_from_zero : (i : ℕ) → i ≡ 0 + i
+        index_from_zero i = omega arith
 
     -- where the layout refuses none of all slots, it refuses none of a block
     pub block_too : AreSlots inodes all (SLOTS_PER_BLOCK * length numbers) → AreSlots inodes block SLOTS_PER_BLOCK
     block_too are slot within =
-        subst (λ r. IsOk r) (there slot within) (are (SLOTS_PER_BLOCK * place + slot) (omega (arith, less, within)))
+        subst (λ r. IsOk r) (there slot within) (are (SLOTS_PER_BLOCK * index_within + slot) (omega (arith, less, within)))

@@ -14,23 +14,23 @@ use Rattle.inode.proofs.AllTests.{all_two}
 use Rattle.image_read.specs.Files.Slots.{AreSlots, HasSlots, IsSpanned}
 use Rattle.image_read.proofs.FilesLemmas.Data.{all_data, all_some, first_pass, is_some}
 
-module _ (g : Geometry) (content : Image) (inode : Inode) (numbers front back : List ℕ)
-    (is : front ≡ take (span_of inode) numbers) (rest : back ≡ drop (span_of inode) numbers)
+module _ (g : Geometry) (content : Image) (inode : Inode) (numbers leading back : List ℕ)
+    (is : leading ≡ take (span_of inode) numbers) (rest : back ≡ drop (span_of inode) numbers)
     (few : span_of inode ≤ length numbers) where
-  long_front : length front ≡ span_of inode
-  long_front = ap length is ∙ length-take-le (span_of inode) numbers few
+  long_leading : length leading ≡ span_of inode
+  long_leading = ap length is ∙ length-take-le (span_of inode) numbers few
 
   -- the slots of the blocks that are spanned
   pub has_spanned : (slots : List Slot)
-      → HasSlots g.inodes (bytes_of content front) (SLOTS_PER_BLOCK * length front) slots
+      → HasSlots g.inodes (bytes_of content leading) (SLOTS_PER_BLOCK * length leading) slots
       → HasSlots g.inodes (bytes_of content (take (span_of inode) numbers)) (SLOTS_PER_BLOCK * span_of inode) slots
   has_spanned slots has =
       subst (λ count. HasSlots g.inodes (bytes_of content (take (span_of inode) numbers)) (SLOTS_PER_BLOCK * count) slots)
-      long_front
-      (subst (λ l. HasSlots g.inodes (bytes_of content l) (SLOTS_PER_BLOCK * length front) slots) is has)
+      long_leading
+      (subst (λ l. HasSlots g.inodes (bytes_of content l) (SLOTS_PER_BLOCK * length leading) slots) is has)
 
-  pub are_spanned : list_all (is_data g) front ≡ true → list_all (λ number. nat_eq number 0) back ≡ true
-      → (slots : List Slot) → HasSlots g.inodes (bytes_of content front) (SLOTS_PER_BLOCK * length front) slots
+  pub are_spanned : list_all (is_data g) leading ≡ true → list_all (λ number. nat_eq number 0) back ≡ true
+      → (slots : List Slot) → HasSlots g.inodes (bytes_of content leading) (SLOTS_PER_BLOCK * length leading) slots
       → IsSpanned g.inodes content inode numbers
   are_spanned lie none slots has =
       let spanned : list_all (is_data g) (take (span_of inode) numbers) ≡ true =
@@ -42,13 +42,13 @@ module _ (g : Geometry) (content : Image) (inode : Inode) (numbers front back : 
       record { few = few; first = λ i. some i && others i; slots = (has_spanned slots has).are }
 
   module _ (spans : IsSpanned g.inodes content inode numbers) where
-    pub slots_of_front : AreSlots g.inodes (bytes_of content front) (SLOTS_PER_BLOCK * length front)
-    slots_of_front =
-        subst (λ count. AreSlots g.inodes (bytes_of content front) (SLOTS_PER_BLOCK * count)) (sym long_front)
+    pub slots_of_leading : AreSlots g.inodes (bytes_of content leading) (SLOTS_PER_BLOCK * length leading)
+    slots_of_leading =
+        subst (λ count. AreSlots g.inodes (bytes_of content leading) (SLOTS_PER_BLOCK * count)) (sym long_leading)
         (subst (λ l. AreSlots g.inodes (bytes_of content l) (SLOTS_PER_BLOCK * span_of inode)) (sym is) spans.slots)
 
-    pub front_is_data : list_all (is_data_block_or_none g) numbers ≡ true → list_all (is_data g) front ≡ true
-    front_is_data placed =
+    pub leading_is_data : list_all (is_data_block_or_none g) numbers ≡ true → list_all (is_data g) leading ≡ true
+    leading_is_data placed =
         ap (list_all (is_data g)) is
         ∙ all_data g (take (span_of inode) numbers) (first_pass (is_data_block_or_none g) (span_of inode) numbers placed)
         (all_two (list_all is_some (take (span_of inode) numbers))

@@ -95,21 +95,21 @@ module _ (content : Image) (long : (number : ℕ) → length (content number) �
         let none : ◌≡◌ {A = List ℕ} (drop size []) [] = drop_all size [] (omega arith) in ap is_zeros none
 
     -- one block more
-    pub one_more : (place : ℕ) → place < length numbers → is_zeros (drop size (bytes_of content (take (place + 1) numbers)))
-        ≡ (is_zeros (drop size (bytes_of content (take place numbers)))
-        && is_zeros (drop (size - BLOCK_BYTES * place) (content_of content (get_or numbers place 0))))
-    one_more place less =
-        let few = length-take-le place numbers (omega (arith, less)) in
-        ap (λ l. is_zeros (drop size (bytes_of content l))) (take_more numbers place 0 less)
-        ∙ zeros_both size (take place numbers) (get_or numbers place 0 ∷ [])
-        ∙ (λ i. is_zeros (drop size (bytes_of content (take place numbers)))
-        && is_zeros (drop (size - BLOCK_BYTES * few i) (one_block (get_or numbers place 0) i)))
+    pub one_more : (index_within : ℕ) → index_within < length numbers → is_zeros (drop size (bytes_of content (take (index_within + 1) numbers)))
+        ≡ (is_zeros (drop size (bytes_of content (take index_within numbers)))
+        && is_zeros (drop (size - BLOCK_BYTES * index_within) (content_of content (get_or numbers index_within 0))))
+    one_more index_within less =
+        let few = length-take-le index_within numbers (omega (arith, less)) in
+        ap (λ l. is_zeros (drop size (bytes_of content l))) (take_more numbers index_within 0 less)
+        ∙ zeros_both size (take index_within numbers) (get_or numbers index_within 0 ∷ [])
+        ∙ (λ i. is_zeros (drop size (bytes_of content (take index_within numbers)))
+        && is_zeros (drop (size - BLOCK_BYTES * few i) (one_block (get_or numbers index_within 0) i)))
 
     -- where the first blocks have something past the size, all have
-    pub some_there : (place : ℕ) → is_zeros (drop size (bytes_of content (take place numbers))) ≡ false
+    pub some_there : (index_within : ℕ) → is_zeros (drop size (bytes_of content (take index_within numbers))) ≡ false
         → is_zeros (drop size (bytes_of content numbers)) ≡ false
-    some_there place some =
-        ap (λ l. is_zeros (drop size (bytes_of content l))) (sym (take-append-drop place numbers))
-        ∙ zeros_both size (take place numbers) (drop place numbers)
-        ∙ not_both (is_zeros (drop size (bytes_of content (take place numbers))))
-        (is_zeros (drop (size - BLOCK_BYTES * length (take place numbers)) (bytes_of content (drop place numbers)))) some
+    some_there index_within some =
+        ap (λ l. is_zeros (drop size (bytes_of content l))) (sym (take-append-drop index_within numbers))
+        ∙ zeros_both size (take index_within numbers) (drop index_within numbers)
+        ∙ not_both (is_zeros (drop size (bytes_of content (take index_within numbers))))
+        (is_zeros (drop (size - BLOCK_BYTES * length (take index_within numbers)) (bytes_of content (drop index_within numbers)))) some

@@ -8,22 +8,22 @@ use Rattle.layout.specs.Decode.{content_of}
 use Rattle.layout.specs.Parts.{content_in}
 use Rattle.layout.specs.Places.{is_data}
 use Rattle.circ.specs.Log.Recovery.{HasOnlyRead, image_of}
-use Rattle.image_read.specs.Overlays.LaidOver.{laid_over}
-use Rattle.image_read.proofs.PartsLemmas.LaidThen.{laid_then}
+use Rattle.image_read.specs.LoggedImage.WithOverlay.{with_overlay}
+use Rattle.image_read.proofs.PartsLemmas.OverlayThen.{overlay_then}
 
 module _ (g : Geometry) (logged : List (BlockNo × Content)) (a b : Device) (reads : HasOnlyRead a b) where
-  pub content_then : (number : ℕ) → content_of (content_in g (laid_over logged (image_of b))) number
-      ≡ content_of (content_in g (laid_over logged (image_of a))) number
+  pub content_then : (number : ℕ) → content_of (content_in g (with_overlay logged (image_of b))) number
+      ≡ content_of (content_in g (with_overlay logged (image_of a))) number
   content_then number =
       ap (λ l. cond (nat_eq number 0) (replicate BLOCK_BYTES 0) (cond (is_data g number) l (replicate BLOCK_BYTES 0)))
-      (laid_then logged a b reads number)
+      (overlay_then logged a b reads number)
 
-  pub long_then : ((number : ℕ) → length (content_in g (laid_over logged (image_of a)) number) ≡ BLOCK_BYTES)
-      → (number : ℕ) → length (content_in g (laid_over logged (image_of b)) number) ≡ BLOCK_BYTES
+  pub long_then : ((number : ℕ) → length (content_in g (with_overlay logged (image_of a)) number) ≡ BLOCK_BYTES)
+      → (number : ℕ) → length (content_in g (with_overlay logged (image_of b)) number) ≡ BLOCK_BYTES
   long_then long number =
       ap (λ (l : List ℕ). length (cond (is_data g number) l (replicate BLOCK_BYTES 0)))
-      (laid_then logged a b reads number) ∙ long number
+      (overlay_then logged a b reads number) ∙ long number
 
   -- data blocks have what they had
-  pub contents_then : content_in g (laid_over logged (image_of b)) ≡ content_in g (laid_over logged (image_of a))
-  contents_then = λ i number. cond (is_data g number) (laid_then logged a b reads number i) (replicate BLOCK_BYTES 0)
+  pub contents_then : content_in g (with_overlay logged (image_of b)) ≡ content_in g (with_overlay logged (image_of a))
+  contents_then = λ i number. cond (is_data g number) (overlay_then logged a b reads number i) (replicate BLOCK_BYTES 0)

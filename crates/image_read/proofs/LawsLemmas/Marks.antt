@@ -7,13 +7,13 @@ use Rattle.layout.specs.declared.geometry.Geometry.{Geometry}
 use Rattle.layout.specs.Geometry.{bitmap_blocks, data_at}
 use Rattle.layout.specs.Owners.{IsMarked, is_marked_block, is_marked_inode, owned}
 use Rattle.layout.specs.Parts.{Parts}
-use Rattle.image_read.specs.Tallies.Tally.{IsOwned, Owned}
+use Rattle.image_read.specs.ImageCounts.Tally.{IsOwned, Owned}
 
-module _ (g : Geometry) (parts : Parts) (kept : Owned) (is : IsOwned (owned g parts) kept)
-    (size : length kept.has ≡ g.blocks) where
+module _ (g : Geometry) (parts : Parts) (is_preserved : Owned) (is : IsOwned (owned g parts) is_preserved)
+    (size : length is_preserved.has ≡ g.blocks) where
   -- the bit that a block should have, by what is kept
   abbrev pub wanted : ℕ → Bool
-  wanted number = nat_lt number (data_at g.blocks g.inodes) || nat_le g.blocks number || get_or kept.has number false
+  wanted number = nat_lt number (data_at g.blocks g.inodes) || nat_le g.blocks number || get_or is_preserved.has number false
 
   past : (a b c : Bool) → b ≡ true → (a || b) ≡ (a || b || c)
   past true b c e = refl
@@ -25,12 +25,12 @@ module _ (g : Geometry) (parts : Parts) (kept : Owned) (is : IsOwned (owned g pa
     | inl less ↦ ap (λ b. nat_lt number (data_at g.blocks g.inodes) || nat_le g.blocks number || b)
         (is.has number (omega (arith, less, size)))
     | inr more ↦
-        sym (past (nat_lt number (data_at g.blocks g.inodes)) (nat_le g.blocks number) (get_or kept.has number false)
+        sym (past (nat_lt number (data_at g.blocks g.inodes)) (nat_le g.blocks number) (get_or is_preserved.has number false)
         (le-leb g.blocks number more))
         ∙ past (nat_lt number (data_at g.blocks g.inodes)) (nat_le g.blocks number) _ (le-leb g.blocks number more)
   ]
 
-  pub marked_by : kept.shared ≡ false
+  pub marked_by : is_preserved.shared ≡ false
       → ((number : ℕ) → number < BITS_PER_BLOCK * bitmap_blocks g.blocks → parts.block_bits number ≡ wanted number)
       → ((number : ℕ) → number < BITS_PER_BLOCK * bitmap_blocks g.inodes
       → parts.inode_bits number ≡ is_marked_inode g parts number)
@@ -45,7 +45,7 @@ module _ (g : Geometry) (parts : Parts) (kept : Owned) (is : IsOwned (owned g pa
       → parts.block_bits number ≡ wanted number
   bits_of_marked marked number less = marked.blocks_marked number less ∙ sym (same number)
 
-  pub not_shared : IsMarked g parts → kept.shared ≡ true → ⊥
+  pub not_shared : IsMarked g parts → is_preserved.shared ≡ true → ⊥
   not_shared marked shared =
       let two = is.twice shared in
       let some = two.1 in

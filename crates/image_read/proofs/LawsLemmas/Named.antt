@@ -9,14 +9,14 @@ use Rattle.std.specs.List.{flat_map, range_with_len}
 use Rattle.std.proofs.lemmas.List.Sums.{sum_by-cons}
 use Rattle.nfs_spec.proofs.ModelLemmas.Maps.{entries-empty}
 use Rattle.nfs_spec.specs.Model.Names.{names_in, names_of}
-use Rattle.nfs_spec.specs.Model.Node.{DirectoryEntry, Node}
+use Rattle.nfs_spec.specs.Model.Node.{DirentValue, Node}
 use Rattle.nfs_spec.specs.Model.Tree.{Tree, node_at}
 use Rattle.nfs_spec.proofs.ProceduresLemmas.Parts.{insert_new, part}
 use Rattle.layout.proofs.Frame.{counts}
 use Rattle.bitmap.proofs.MapSums.{sum_of}
 use Rattle.bitmap.proofs.Ranges.{one_if, same_sums}
 use Rattle.dir.proofs.Distinct.{Once, first_once}
-use Rattle.image_read.specs.Tallies.Tally.{times}
+use Rattle.image_read.specs.ImageCounts.Tally.{times}
 use Rattle.image_read.specs.Laws.TreeOf.{numbers_named}
 
 -- ---- a sum over a map of entries of which none stands twice is one over the list
@@ -38,12 +38,12 @@ module _ {K X : Type 0} {R : K → K → Ordering} (o : IsTotalOrder R) (exact :
 
 -- ---- over the numbers below a bound
 
-pub count_named : (number : ℕ) (es : List (List ℕ × DirectoryEntry))
-    → count_by (λ (e : List ℕ × DirectoryEntry). nat_eq e.1.number number) es ≡ times (numbers_named es) number
+pub count_named : (number : ℕ) (es : List (List ℕ × DirentValue))
+    → count_by (λ (e : List ℕ × DirentValue). nat_eq e.1.number number) es ≡ times (numbers_named es) number
 count_named number [] = refl
 count_named number (e ∷ es) =
     let rest = count_named number es in
-    let one = sum_by-cons (λ (x : List ℕ × DirectoryEntry). one_if (nat_eq x.1.number number)) e es in
+    let one = sum_by-cons (λ (x : List ℕ × DirentValue). one_if (nat_eq x.1.number number)) e es in
     let two = sum_by-cons (λ n. one_if (nat_eq n number)) e.1.number (numbers_named es) in
     omega (arith, rest, one, two)
 

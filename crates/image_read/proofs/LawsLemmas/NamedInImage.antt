@@ -4,7 +4,7 @@ use Rattle.std.proofs.Common.{Option, Some, None, Result, Ok, Err}
 use Rattle.std.specs.FinMap as map
 use Rattle.disk.specs.Crash.{Image}
 use Rattle.nfs_spec.specs.Model.Names.{names_in, names_of}
-use Rattle.nfs_spec.specs.Model.Node.{DirectoryEntry}
+use Rattle.nfs_spec.specs.Model.Node.{DirentValue}
 use Rattle.nfs_spec.specs.Model.Tree.{Tree}
 use Rattle.layout.specs.declared.fault.LayoutFault.{LayoutFault}
 use Rattle.layout.specs.declared.geometry.Geometry.{Geometry}
@@ -14,19 +14,19 @@ use Rattle.layout.specs.declared.inode.InodeKind.TheVariants.{Directory, Link, R
 use Rattle.layout.specs.Decode.{IsDirectory, IsFile, IsOfKind, body_of, entries_in, file_of, named_in}
 use Rattle.layout.specs.Parts.{content_in, parts_of}
 use Rattle.layout.specs.Stands.{HasFiles}
-use Rattle.image_read.specs.Tallies.Tally.{times}
+use Rattle.image_read.specs.ImageCounts.Tally.{times}
 use Rattle.std.specs.Cmp.Lexicographic.{nat_list_cmp_total}
-use Rattle.nfs_spec.proofs.ProceduresLemmas.Entering.{names_apart}
+use Rattle.nfs_spec.proofs.ProceduresLemmas.NameChanges.{names_apart}
 use Rattle.image_read.specs.Laws.TreeOf.{all_named, named_numbers, named_of}
 use Rattle.image_read.proofs.LawsLemmas.Made.{none_past}
 use Rattle.image_read.proofs.LawsLemmas.Named.{count_named, names_are, names_at, sum_once}
 
 module _ (g : Geometry) (content : Image) where
   -- what passes a test of a directory's entries passes it of its slots
-  pub counted_once : (inode : Inode) → IsDirectory g content inode → (p : List ℕ × DirectoryEntry → Bool)
+  pub counted_once : (inode : Inode) → IsDirectory g content inode → (p : List ℕ × DirentValue → Bool)
       → count_by p (map.entries (entries_in g.inodes content inode)) ≡ count_by p (named_in g.inodes content inode)
   counted_once inode is p =
-      sum_once nat_list_cmp_total names_apart (λ (e : List ℕ × DirectoryEntry). cond (p e) 1 0)
+      sum_once nat_list_cmp_total names_apart (λ (e : List ℕ × DirentValue). cond (p e) 1 0)
       (named_in g.inodes content inode) is.once
 
   pub of_kind : (number : ℕ) (inode : Inode) (kind : InodeKind) → IsOfKind g content kind inode
@@ -34,7 +34,7 @@ module _ (g : Geometry) (content : Image) where
       ≡ times (named_numbers g.inodes content kind inode) number
   of_kind number inode Regular is = refl
   of_kind number inode Directory is =
-      counted_once inode is (λ (e : List ℕ × DirectoryEntry). nat_eq e.1.number number)
+      counted_once inode is (λ (e : List ℕ × DirentValue). nat_eq e.1.number number)
       ∙ count_named number (named_in g.inodes content inode)
   of_kind number inode Link is = refl
 

@@ -16,7 +16,7 @@ use Rattle.base.specs.declared.TheConstants.{LARGEST_FILE, MODE_BITS, MOST_LINKS
 use Rattle.base.specs.declared.TheConstants.{SLOTS_PER_BLOCK, TARGET_BYTES}
 use Rattle.disk.specs.Crash.{Image}
 use Rattle.nfs_types.specs.Fits.{AreBytes}
-use Rattle.nfs_spec.specs.Model.Node.{DirectoryEntry}
+use Rattle.nfs_spec.specs.Model.Node.{DirentValue}
 use Rattle.nfs_spec.specs.Model.Sound.{SoundBody, SoundBytes, SoundEntries, SoundName, SoundNode, SoundTarget, SoundVerifier}
 use Rattle.layout.specs.declared.fault.LayoutFault.{LayoutFault}
 use Rattle.layout.specs.declared.geometry.Geometry.{Geometry}
@@ -24,7 +24,7 @@ use Rattle.layout.specs.declared.inode.Inode.{Inode}
 use Rattle.layout.specs.declared.inode.InodeKind.{InodeKind}
 use Rattle.layout.specs.declared.inode.InodeKind.TheVariants.{Directory, Link, Regular}
 use Rattle.layout.specs.declared.slot.Slot.{Slot}
-use Rattle.layout.specs.Decode.{body_of, bytes_of, content_of, entries_in, entry_in, mapped_of}
+use Rattle.layout.specs.Decode.{body_of, bytes_of, content_of, entries_in, dirent_in, mapped_of}
 use Rattle.layout.specs.Decode.{named_in, node_with, numbers_of, slot_bytes, span_of}
 use Rattle.layout.specs.InodeForm.{SoundInode, is_sound_directory, is_sound_file, is_sound_inode, is_sound_kind}
 use Rattle.layout.specs.InodeForm.{is_sound_link, is_sound_map, is_sound_regular, is_time}
@@ -32,7 +32,7 @@ use Rattle.layout.specs.SlotForm.{read_slot}
 use Rattle.layout.proofs.AllNumbers as all_numbers
 use Rattle.layout.proofs.Mapped.{is_some}
 use Rattle.inode.proofs.AllTests.{all_five, all_three, all_two, is_less, no_more}
-use Rattle.nfs_spec.proofs.ProceduresLemmas.Entering.{names_apart}
+use Rattle.nfs_spec.proofs.ProceduresLemmas.NameChanges.{names_apart}
 use Rattle.inode_data.proofs.OneNumber.{is_mapped, none_mapped}
 use Rattle.dir.proofs.Distinct.{found_in}
 use Rattle.dir.proofs.Members.{from_range, none_some, same}
@@ -87,8 +87,8 @@ module _ (content : Image) (long : (n : ℕ) → length (content n) ≡ BLOCK_BY
       ≡ get_or (content_of content (get_or numbers (offset / BLOCK_BYTES) 0)) (offset % BLOCK_BYTES) 0
   unfolding bytes_of
   byte_at numbers offset less =
-      let place : offset ≡ BLOCK_BYTES * (offset / BLOCK_BYTES) + offset % BLOCK_BYTES = omega arith in
-      ap (λ k. get_or (flat_map (content_of content) numbers) k 0) place
+      let index_within : offset ≡ BLOCK_BYTES * (offset / BLOCK_BYTES) + offset % BLOCK_BYTES = omega arith in
+      ap (λ k. get_or (flat_map (content_of content) numbers) k 0) index_within
       ∙ byte_in numbers (offset / BLOCK_BYTES) (offset % BLOCK_BYTES) less (omega arith)
 
   all_bytes : (numbers : List ℕ) → AreBytes (bytes_of content numbers)
@@ -175,47 +175,47 @@ module _ (inodes : ℕ) (content : Image) (inode : Inode)
     (names : (index : ℕ) (slot : Slot) → index < SLOTS_PER_BLOCK * span_of inode
     → read_slot inodes (slot_bytes content inode index) ≡ Ok (Some slot) → SoundName slot.name) where
   -- the slot in which an entry lies
-  pub record LiesIn (name : List ℕ) (entry : DirectoryEntry) : Type 0 where
-    pub less : entry.slot < SLOTS_PER_BLOCK * span_of inode
-    pub is : entry_in entry.slot (read_slot inodes (slot_bytes content inode entry.slot)) ≡ Some (name, entry)
+  pub record LiesIn (name : List ℕ) (dirent : DirentValue) : Type 0 where
+    pub less : dirent.slot < SLOTS_PER_BLOCK * span_of inode
+    pub is : dirent_in dirent.slot (read_slot inodes (slot_bytes content inode dirent.slot)) ≡ Some (name, dirent)
 
-  lies_at : (index : ℕ) (r : Result (Option Slot) LayoutFault) (name : List ℕ) (entry : DirectoryEntry)
-      → entry_in index r ≡ Some (name, entry) → (index ≡ entry.slot) × ((slot : Slot) × (r ≡ Ok (Some slot)) × (slot.name ≡ name))
-  lies_at index (Ok (Some slot)) name entry e =
-      let pair : (slot.name, record { number = slot.number; slot = index }) ≡ (name, entry) = same _ _ e in
-      (ap (λ (p : List ℕ × DirectoryEntry). p.1.slot) pair, (slot, refl, ap (λ (p : List ℕ × DirectoryEntry). p.0) pair))
-  lies_at index (Ok None) name entry e = absurd (none_some (name, entry) e)
-  lies_at index (Err fault) name entry e = absurd (none_some (name, entry) e)
+  lies_at : (index : ℕ) (r : Result (Option Slot) LayoutFault) (name : List ℕ) (dirent : DirentValue)
+      → dirent_in index r ≡ Some (name, dirent) → (index ≡ dirent.slot) × ((slot : Slot) × (r ≡ Ok (Some slot)) × (slot.name ≡ name))
+  lies_at index (Ok (Some slot)) name dirent e =
+      let pair : (slot.name, record { number = slot.number; slot = index }) ≡ (name, dirent) = same _ _ e in
+      (ap (λ (p : List ℕ × DirentValue). p.1.slot) pair, (slot, refl, ap (λ (p : List ℕ × DirentValue). p.0) pair))
+  lies_at index (Ok None) name dirent e = absurd (none_some (name, dirent) e)
+  lies_at index (Err fault) name dirent e = absurd (none_some (name, dirent) e)
 
-  lies_in : (name : List ℕ) (entry : DirectoryEntry) → map.get (entries_in inodes content inode) name ≡ Some entry
-      → LiesIn name entry
+  lies_in : (name : List ℕ) (dirent : DirentValue) → map.get (entries_in inodes content inode) name ≡ Some dirent
+      → LiesIn name dirent
   unfolding named_in
-  lies_in name entry e =
-      let there = found_in nat_list_cmp_total names_apart (named_in inodes content inode) name entry
+  lies_in name dirent e =
+      let there = found_in nat_list_cmp_total names_apart (named_in inodes content inode) name dirent
       (sym (map.get-from_entries nat_list_cmp_total (named_in inodes content inode) name) ∙ e) in
-      let at = from_range (λ index. entry_in index (read_slot inodes (slot_bytes content inode index))) 0
-      (SLOTS_PER_BLOCK * span_of inode) (name, entry) there in
-      let place = (lies_at at.0 (read_slot inodes (slot_bytes content inode at.0)) name entry at.3).0 in
+      let at = from_range (λ index. dirent_in index (read_slot inodes (slot_bytes content inode index))) 0
+      (SLOTS_PER_BLOCK * span_of inode) (name, dirent) there in
+      let index_within = (lies_at at.0 (read_slot inodes (slot_bytes content inode at.0)) name dirent at.3).0 in
       let end = at.2 in
       record {
-        less = omega (arith, end, place);
-        is = subst (λ k. entry_in k (read_slot inodes (slot_bytes content inode k)) ≡ Some (name, entry)) place at.3;
+        less = omega (arith, end, index_within);
+        is = subst (λ k. dirent_in k (read_slot inodes (slot_bytes content inode k)) ≡ Some (name, dirent)) index_within at.3;
       }
 
   pub sound_entries : span_of inode ≤ MOST_SPAN → SoundEntries (entries_in inodes content inode) (span_of inode)
   sound_entries few = record {
     blocks = few;
-    names = λ name entry e.
-        let lies = lies_in name entry e in
-        let slot = (lies_at entry.slot (read_slot inodes (slot_bytes content inode entry.slot)) name entry lies.is).1 in
-        subst SoundName slot.2 (names entry.slot slot.0 lies.less slot.1);
-    slots = λ name entry e. (lies_in name entry e).less;
+    names = λ name dirent e.
+        let lies = lies_in name dirent e in
+        let slot = (lies_at dirent.slot (read_slot inodes (slot_bytes content inode dirent.slot)) name dirent lies.is).1 in
+        subst SoundName slot.2 (names dirent.slot slot.0 lies.less slot.1);
+    slots = λ name dirent e. (lies_in name dirent e).less;
     distinct = λ one other a b at_one at_other same_slot.
         let first = (lies_in one a at_one).is in
         let second = (lies_in other b at_other).is in
         let both : Some (one, a) ≡ Some (other, b) =
-        sym first ∙ ap (λ k. entry_in k (read_slot inodes (slot_bytes content inode k))) same_slot ∙ second in
-        ap (λ (p : List ℕ × DirectoryEntry). p.0) (same _ _ both);
+        sym first ∙ ap (λ k. dirent_in k (read_slot inodes (slot_bytes content inode k))) same_slot ∙ second in
+        ap (λ (p : List ℕ × DirentValue). p.0) (same _ _ both);
   }
 
 -- ---- a node

@@ -14,17 +14,17 @@ use Rattle.inode.proofs.AllTests.{all_five, all_seven, all_three, is_less, no_mo
 module _ (g : Geometry) (inode : Inode) where
   -- ---- a directory
 
-  abbrev has_far : Bool
-  has_far =
+  abbrev has_indirect : Bool
+  has_indirect =
       cond (nat_lt DIRECT_INDEXES (inode.size / BLOCK_BYTES)) (not (nat_eq inode.indirect 0)) (nat_eq inode.indirect 0)
 
-  abbrev near_first : Bool
-  near_first = names_first (min (inode.size / BLOCK_BYTES) DIRECT_INDEXES) inode.direct
+  abbrev direct_names_first : Bool
+  direct_names_first = names_first (min (inode.size / BLOCK_BYTES) DIRECT_INDEXES) inode.direct
 
   abbrev directory_first : Bool
   directory_first = nat_le 2 inode.nlink && nat_le inode.size LARGEST_DIRECTORY
       && nat_eq (inode.size % BLOCK_BYTES) 0 && nat_lt 0 inode.parent && nat_lt inode.parent g.inodes
-      && near_first && has_far
+      && direct_names_first && has_indirect
 
   module _ (good : is_sound_kind g Directory inode ≡ true) where
     directory_rules : (directory_first ≡ true) × (nat_eq inode.double 0 ≡ true) × (is_none inode.verifier ≡ true)
@@ -42,7 +42,7 @@ module _ (g : Geometry) (inode : Inode) where
     pub few_spanned : span_of inode ≤ FIRST_DOUBLE_INDEX
     few_spanned =
         let rules = all_seven (nat_le 2 inode.nlink) (nat_le inode.size LARGEST_DIRECTORY)
-        (nat_eq (inode.size % BLOCK_BYTES) 0) (nat_lt 0 inode.parent) (nat_lt inode.parent g.inodes) near_first has_far
+        (nat_eq (inode.size % BLOCK_BYTES) 0) (nat_lt 0 inode.parent) (nat_lt inode.parent g.inodes) direct_names_first has_indirect
         directory_rules.0 in
         let few = no_more inode.size LARGEST_DIRECTORY rules.1 in
         omega (arith, few)
@@ -50,7 +50,7 @@ module _ (g : Geometry) (inode : Inode) where
     pub parent_inside : inode.parent < g.inodes
     parent_inside =
         let rules = all_seven (nat_le 2 inode.nlink) (nat_le inode.size LARGEST_DIRECTORY)
-        (nat_eq (inode.size % BLOCK_BYTES) 0) (nat_lt 0 inode.parent) (nat_lt inode.parent g.inodes) near_first has_far
+        (nat_eq (inode.size % BLOCK_BYTES) 0) (nat_lt 0 inode.parent) (nat_lt inode.parent g.inodes) direct_names_first has_indirect
         directory_rules.0 in
         is_less inode.parent g.inodes rules.4
 

@@ -9,7 +9,7 @@ use Rattle.base.specs.declared.TheConstants.{BLOCK_BYTES, MODE_BITS, MOST_LINKS,
 use Rattle.disk.specs.Crash.{Image}
 use Rattle.nfs_types.specs.Fits.{AreBytes}
 use Rattle.nfs_spec.specs.Model.Names.{entries_of, is_directory, is_directory_at, names_of}
-use Rattle.nfs_spec.specs.Model.Node.{DirectoryEntry, Node}
+use Rattle.nfs_spec.specs.Model.Node.{DirentValue, Node}
 use Rattle.nfs_spec.specs.Model.Sound.{Sound, SoundAt, SoundDirectoryLinks, SoundFileLinks}
 use Rattle.nfs_spec.specs.Model.Tree.{Tree, node_at}
 use Rattle.nfs_spec.proofs.ProceduresLemmas.Adding.{names_in_of}
@@ -36,7 +36,7 @@ use Rattle.image_read.proofs.LawsLemmas.Made.{files_are, made_has}
 use Rattle.dir.proofs.Members.{none_some, same}
 use Rattle.image_read.proofs.LawsLemmas.NamedInImage.{counted_once, names_in_image, of_kind}
 use Rattle.image_read.proofs.LawsLemmas.Nodes.{sound_node}
-use Rattle.image_read.proofs.LawsLemmas.Room.{there_is_room}
+use Rattle.image_read.proofs.LawsLemmas.OwnedFit.{there_is_space}
 
 module _ (g : Geometry) (blocks : Image)
     (bytes : (number : ℕ) → number < g.blocks → (length (blocks number) ≡ BLOCK_BYTES) × AreBytes (blocks number))
@@ -131,13 +131,13 @@ module _ (g : Geometry) (blocks : Image)
     used_there n (Ok None) e used = cc
     used_there n (Err fault) e used = cc
 
-    all_there : All (λ (entry : List ℕ × DirectoryEntry). IsSome (node_at tree entry.1.number))
+    all_there : All (λ (dirent : List ℕ × DirentValue). IsSome (node_at tree dirent.1.number))
         (entries_of (body_of g.inodes content inode.kind inode))
     all_there k d inside =
         let body = body_of g.inodes content inode.kind inode in
         let es = entries_of body in
         let q = (get_or es k d).1.number in
-        let one = get_or-le-sum_by (λ (e : List ℕ × DirectoryEntry). cond (nat_eq e.1.number q) 1 0) es k d inside in
+        let one = get_or-le-sum_by (λ (e : List ℕ × DirentValue). cond (nat_eq e.1.number q) 1 0) es k d inside in
         let here : cond (nat_eq (get_or es k d).1.number q) 1 0 ≡ 1 = ap (λ b. cond b 1 0) (eq-eqb q q refl) in
         let most = names_in_of tree number q (node_of inode) (got number inode is) in
         let count = names_in_image g blocks tree has q in
@@ -172,7 +172,7 @@ module _ (g : Geometry) (blocks : Image)
     directory_links kind of_directory =
         let linked = whole.directories number inode is kind in record {
           counted = linked.counted ∙ ap (λ k. 2 + k) (sym (counted_once g content inode of_directory
-              (λ (e : List ℕ × DirectoryEntry). is_directory_at (node_at tree e.1.number))));
+              (λ (e : List ℕ × DirentValue). is_directory_at (node_at tree e.1.number))));
           root = λ at. record {
             unnamed = names_in_image g blocks tree has ROOT ∙ (linked.root at).0;
             parent = (linked.root at).1;
@@ -241,7 +241,7 @@ module _ (g : Geometry) (blocks : Image)
         files = λ number node e.
             let found = from_file (table_of g blocks number) node (sym (files_are g blocks number) ∙ e) in
             subst (SoundAt tree number) found.2 (sound_at number found.0 found.1);
-        room = there_is_room g blocks tree holds;
+        has_space = there_is_space g blocks tree holds;
       }
 
   pub stands_whole : Stands g blocks tree

@@ -8,10 +8,10 @@ use Rattle.std.proofs.lemmas.Bool.{cases_lt, le-ltb, ne_eqb}
 use Rattle.base.specs.declared.TheConstants.{ROOT}
 use Rattle.disk.specs.Crash.{Image}
 use Rattle.nfs_spec.specs.Model.Names.{entries_of, is_directory, is_directory_at, names_in, names_of}
-use Rattle.nfs_spec.specs.Model.Node.{DirectoryEntry, Node}
+use Rattle.nfs_spec.specs.Model.Node.{DirentValue, Node}
 use Rattle.nfs_spec.specs.Model.Sound.{Sound, SoundAt, SoundBody, SoundDirectoryLinks}
 use Rattle.nfs_spec.specs.Model.Tree.{Tree, node_at}
-use Rattle.nfs_spec.proofs.ProceduresLemmas.Entering.{names_apart}
+use Rattle.nfs_spec.proofs.ProceduresLemmas.NameChanges.{names_apart}
 use Rattle.nfs_spec.proofs.ProceduresLemmas.Parts.{sum_none}
 use Rattle.nfs_spec.proofs.ProceduresLemmas.Sums.{got_at}
 use Rattle.layout.specs.declared.fault.LayoutFault.{LayoutFault}
@@ -20,7 +20,7 @@ use Rattle.layout.specs.declared.geometry.Geometry.{Geometry}
 use Rattle.layout.specs.declared.inode.Inode.{Inode}
 use Rattle.layout.specs.declared.inode.InodeKind.{InodeKind}
 use Rattle.layout.specs.declared.inode.InodeKind.TheVariants.{Directory, Link, Regular}
-use Rattle.layout.specs.Decode.{IsDirectory, IsFile, IsOfKind, body_of, entry_in, file_of, inode_at, named_in, node_with}
+use Rattle.layout.specs.Decode.{IsDirectory, IsFile, IsOfKind, body_of, dirent_in, file_of, inode_at, named_in, node_with}
 use Rattle.layout.specs.Decode.{slot_bytes}
 use Rattle.layout.specs.Owners.{is_used}
 use Rattle.layout.specs.Parts.{content_in, parts_of, table_of}
@@ -93,11 +93,11 @@ module _ (g : Geometry) (blocks : Image) (stands : Stands g blocks (tree_of g bl
   -- no entry names a number that no file has
   unnamed : (number : ℕ) → node_at tree number ≡ None → names_of tree number ≡ 0
   unnamed number none =
-      sum_none (λ entry. names_in number entry.1.body) (map.entries tree.nodes) (λ index d inside.
-      let entry = get_or (map.entries tree.nodes) index d in
-      let here = sound.files entry.0 entry.1 (got_at tree.nodes d index inside) in
-      sum_none (λ e. cond (nat_eq e.1.number number) 1 0) (entries_of entry.1.body) (λ place e within.
-      ap (λ b. cond b 1 0) (ne_eqb _ _ (other _ (here.names place e within)))))
+      sum_none (λ dirent. names_in number dirent.1.body) (map.entries tree.nodes) (λ index d inside.
+      let dirent = get_or (map.entries tree.nodes) index d in
+      let here = sound.files dirent.0 dirent.1 (got_at tree.nodes d index inside) in
+      sum_none (λ e. cond (nat_eq e.1.number number) 1 0) (entries_of dirent.1.body) (λ index_within e within.
+      ap (λ b. cond b 1 0) (ne_eqb _ _ (other _ (here.names index_within e within)))))
     where
       other : (p : ℕ) → IsSome (node_at tree p) → p ≡ number → ⊥
       other p some is = let never : false ≡ true = sym (ap is_some (ap (node_at tree) is ∙ none)) ∙ some in cc
@@ -120,12 +120,12 @@ module _ (g : Geometry) (blocks : Image) (stands : Stands g blocks (tree_of g bl
       → HasNames g content inode
   unfolding named_in
   slot_names inode is body index slot less e =
-      let entry : DirectoryEntry = record { number = slot.number; slot = index } in
-      let there = in_range (λ k. entry_in k (read_slot g.inodes (slot_bytes content inode k))) 0
-      _ index (slot.name, entry) (omega arith) (omega (arith, less)) (ap (entry_in index) e) in
-      body.names slot.name entry
+      let dirent : DirentValue = record { number = slot.number; slot = index } in
+      let there = in_range (λ k. dirent_in k (read_slot g.inodes (slot_bytes content inode k))) 0
+      _ index (slot.name, dirent) (omega arith) (omega (arith, less)) (ap (dirent_in index) e) in
+      body.names slot.name dirent
       (map.get-from_entries nat_list_cmp_total (named_in g.inodes content inode) slot.name
-      ∙ found_once nat_list_cmp_total names_apart (named_in g.inodes content inode) is.once slot.name entry there)
+      ∙ found_once nat_list_cmp_total names_apart (named_in g.inodes content inode) is.once slot.name dirent there)
 
   -- ---- links
 
@@ -151,7 +151,7 @@ module _ (g : Geometry) (blocks : Image) (stands : Stands g blocks (tree_of g bl
       let of_directory = subst (λ k. IsOfKind g content k inode) kind (file number inode is) in
       record {
         counted = links.counted ∙ ap (λ k. 2 + k) (counted_once g content inode of_directory
-            (λ (e : List ℕ × DirectoryEntry). is_directory_at (node_at tree e.1.number)));
+            (λ (e : List ℕ × DirentValue). is_directory_at (node_at tree e.1.number)));
         root = λ here. (sym (names_are ROOT) ∙ (links.root here).unnamed, (links.root here).parent);
         once = λ other. sym (names_are number) ∙ (links.child other).once;
         parent = λ other.

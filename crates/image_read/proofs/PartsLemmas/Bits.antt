@@ -25,10 +25,10 @@ module _ (image : Image) (first : ℕ) (marks : List Bool) where
       let number : ℕ = BITS_PER_BLOCK * index + bit in
       let block : (BITS_PER_BLOCK * index + bit) / BITS_PER_BLOCK ≡ index = omega (arith, less) in
       let byte : (BITS_PER_BLOCK * index + bit) % BITS_PER_BLOCK / 8 ≡ bit / 8 = omega (arith, less) in
-      let place : (BITS_PER_BLOCK * index + bit) % 8 ≡ bit % 8 = omega arith in
+      let index_within : (BITS_PER_BLOCK * index + bit) % 8 ≡ bit % 8 = omega arith in
       ap (λ n. nat_eq (get_or (image (first + n)) (number % BITS_PER_BLOCK / 8) 0 / 2 ^ (number % 8) % 2) 1) block
       ∙ ap (λ n. nat_eq (get_or (image (first + index)) n 0 / 2 ^ (number % 8) % 2) 1) byte
-      ∙ ap (λ n. nat_eq (get_or (image (first + index)) (bit / 8) 0 / 2 ^ n % 2) 1) place
+      ∙ ap (λ n. nat_eq (get_or (image (first + index)) (bit / 8) 0 / 2 ^ n % 2) 1) index_within
 
   module _ (index : ℕ) (block : List ℕ) (is : block ≡ image (first + index)) where
     there_too : (bit : ℕ) → bit < BITS_PER_BLOCK

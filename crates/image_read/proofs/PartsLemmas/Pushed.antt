@@ -17,8 +17,8 @@ module _ (g : Geometry) (block : List ℕ) where
   pub none_pushed : (old : List (Option Inode)) → ArePushed g block 0 old old
   none_pushed old = record {
     long = omega arith;
-    kept = λ number less. refl;
-    each = λ place less. absurd (omega (arith, less));
+    is_preserved = λ number less. refl;
+    each = λ index_within less. absurd (omega (arith, less));
   }
 
   pub one_pushed : (count : ℕ) (old middle : List (Option Inode)) (one : Option Inode)
@@ -29,15 +29,15 @@ module _ (g : Geometry) (block : List ℕ) where
       let all = length-append middle (one ∷ []) in
       record {
         long = omega (arith, long, all);
-        kept = λ number less.
-            get_or_append_left middle (one ∷ []) None number (omega (arith, less, long)) ∙ before.kept number less;
-        each = λ place less. elim (cases_lt place count) [
+        is_preserved = λ number less.
+            get_or_append_left middle (one ∷ []) None number (omega (arith, less, long)) ∙ before.is_preserved number less;
+        each = λ index_within less. elim (cases_lt index_within count) [
           | inl sooner ↦
-              before.each place sooner
-              ∙ ap Ok (sym (get_or_append_left middle (one ∷ []) None (length old + place) (omega (arith, sooner, long))))
+              before.each index_within sooner
+              ∙ ap Ok (sym (get_or_append_left middle (one ∷ []) None (length old + index_within) (omega (arith, sooner, long))))
           | inr past ↦
-              let at : place ≡ count = omega (arith, less, past) in
-              let end : length old + place ≡ length middle + 0 = omega (arith, at, long) in
+              let at : index_within ≡ count = omega (arith, less, past) in
+              let end : length old + index_within ≡ length middle + 0 = omega (arith, at, long) in
               ap (inode_in g block) at ∙ is
               ∙ ap Ok (sym (ap (λ n. get_or (middle ++ one ∷ []) n None) end
               ∙ get_or-append-add middle (one ∷ []) 0 None))
@@ -45,9 +45,9 @@ module _ (g : Geometry) (block : List ℕ) where
       }
 
   -- the layout refuses an inode
-  pub no_inode : (place : ℕ) (fault : LayoutFault) → place < INODES_PER_BLOCK → inode_in g block place ≡ Err fault
+  pub no_inode : (index_within : ℕ) (fault : LayoutFault) → index_within < INODES_PER_BLOCK → inode_in g block index_within ≡ Err fault
       → HasRefusedInodeIn g block
-  no_inode place fault within is = (place, within, λ read. not_ok fault (subst (λ r. IsOk r) is read))
+  no_inode index_within fault within is = (index_within, within, λ read. not_ok fault (subst (λ r. IsOk r) is read))
     where
       not_ok : (fault : LayoutFault) → IsOk {T = Option Inode} (Err fault) → ⊥
       not_ok fault read = cc
@@ -57,21 +57,21 @@ module _ (g : Geometry) (image : Image) where
   no_table = record { long = refl; each = λ number less. absurd (omega (arith, less)) }
 
   -- an inode is that of its place in its block
-  pub there : (index place : ℕ) → place < INODES_PER_BLOCK
-      → inode_at g image (INODES_PER_BLOCK * index + place)
-      ≡ inode_in g (image (table_at g.blocks g.inodes + index)) place
+  pub there : (index index_within : ℕ) → index_within < INODES_PER_BLOCK
+      → inode_at g image (INODES_PER_BLOCK * index + index_within)
+      ≡ inode_in g (image (table_at g.blocks g.inodes + index)) index_within
   unfolding inode_at
-  there index place less =
-      let block : (INODES_PER_BLOCK * index + place) / INODES_PER_BLOCK ≡ index = omega (arith, less) in
-      let offset : (INODES_PER_BLOCK * index + place) % INODES_PER_BLOCK ≡ place = omega (arith, less) in
-      ap (λ n. read_inode g (take INODE_BYTES (drop (INODE_BYTES * ((INODES_PER_BLOCK * index + place)
+  there index index_within less =
+      let block : (INODES_PER_BLOCK * index + index_within) / INODES_PER_BLOCK ≡ index = omega (arith, less) in
+      let offset : (INODES_PER_BLOCK * index + index_within) % INODES_PER_BLOCK ≡ index_within = omega (arith, less) in
+      ap (λ n. read_inode g (take INODE_BYTES (drop (INODE_BYTES * ((INODES_PER_BLOCK * index + index_within)
       % INODES_PER_BLOCK)) (image (table_at g.blocks g.inodes + n))))) block
       ∙ ap (λ n. inode_in g (image (table_at g.blocks g.inodes + index)) n) offset
 
   module _ (index : ℕ) (block : List ℕ) (is : block ≡ image (table_at g.blocks g.inodes + index)) where
-    there_too : (place : ℕ) → place < INODES_PER_BLOCK
-        → inode_at g image (INODES_PER_BLOCK * index + place) ≡ inode_in g block place
-    there_too place less = there index place less ∙ ap (λ b. inode_in g b place) (sym is)
+    there_too : (index_within : ℕ) → index_within < INODES_PER_BLOCK
+        → inode_at g image (INODES_PER_BLOCK * index + index_within) ≡ inode_in g block index_within
+    there_too index_within less = there index index_within less ∙ ap (λ b. inode_in g b index_within) (sym is)
 
     pub block_more : (old new : List (Option Inode)) → IsTable g image (INODES_PER_BLOCK * index) old
         → ArePushed g block INODES_PER_BLOCK old new → IsTable g image (INODES_PER_BLOCK * (index + 1)) new
@@ -81,13 +81,13 @@ module _ (g : Geometry) (image : Image) where
         record {
           long = omega (arith, long, more);
           each = λ number less. elim (cases_lt number (INODES_PER_BLOCK * index)) [
-            | inl sooner ↦ before.each number sooner ∙ ap Ok (sym (pushed.kept number (omega (arith, sooner, long))))
+            | inl sooner ↦ before.each number sooner ∙ ap Ok (sym (pushed.is_preserved number (omega (arith, sooner, long))))
             | inr past ↦
-                let place : ℕ = number - INODES_PER_BLOCK * index in
-                let within : place < INODES_PER_BLOCK = omega (arith, less, past) in
-                let at : number ≡ INODES_PER_BLOCK * index + place = omega (arith, past) in
-                let end : length old + place ≡ number = omega (arith, at, long) in
-                ap (inode_at g image) at ∙ there_too place within ∙ pushed.each place within
+                let index_within : ℕ = number - INODES_PER_BLOCK * index in
+                let within : index_within < INODES_PER_BLOCK = omega (arith, less, past) in
+                let at : number ≡ INODES_PER_BLOCK * index + index_within = omega (arith, past) in
+                let end : length old + index_within ≡ number = omega (arith, at, long) in
+                ap (inode_at g image) at ∙ there_too index_within within ∙ pushed.each index_within within
                 ∙ ap (λ n. Ok (get_or new n None)) end
           ];
         }

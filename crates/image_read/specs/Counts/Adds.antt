@@ -3,7 +3,7 @@ use Rattle.std.specs.Prelude.{ℕ, Bool, false, cond, not, ◌&&◌, ◌||◌, L
 use Rattle.std.specs.Prelude.{Option, Some, None}
 use Rattle.std.specs.List.{flat_map}
 use Rattle.layout.specs.declared.inode.Inode.{Inode}
-use Rattle.image_read.specs.Tallies.Tally.{AreCounts}
+use Rattle.image_read.specs.ImageCounts.Tally.{AreCounts}
 use Rattle.image_read.specs.declared.counts.links.Links.{Links}
 use Rattle.image_read.specs.Counts.Linked.{is_directory_in, is_directory_kind}
 

@@ -5,7 +5,7 @@ use Rattle.base.specs.declared.TheConstants.{ROOT}
 use Rattle.layout.specs.declared.inode.Inode.{Inode}
 use Rattle.layout.specs.declared.inode.InodeKind.{InodeKind}
 use Rattle.layout.specs.declared.inode.InodeKind.TheVariants.{Directory, Link, Regular}
-use Rattle.image_read.specs.Tallies.Led.{led}
+use Rattle.image_read.specs.ImageCounts.Iterated.{iterated}
 use Rattle.image_read.specs.declared.counts.links.Links.{Links}
 
 -- there are counts of so many numbers
@@ -55,7 +55,7 @@ parent_below size None = 0
 -- some steps to the parent lead from each directory to the root
 abbrev pub AreReached : List (Option Inode) → Type 0
 AreReached table = (number : ℕ) → number < length table → is_directory_in (get_or table number None) ≡ true
-    → (steps : ℕ) × (led (λ n. parent_below (length table) (get_or table n None)) steps number ≡ ROOT)
+    → (steps : ℕ) × (iterated (λ n. parent_below (length table) (get_or table n None)) steps number ≡ ROOT)
 
 pub record AreLinked (table : List (Option Inode)) (links : Links) : Type 0 where
   pub zero : get_or table 0 None ≡ None

@@ -5,7 +5,7 @@ use Rattle.std.specs.FinMap.{FinMap, empty, insert}
 use Rattle.std.specs.List.{flat_map, range_with_len}
 use Rattle.base.specs.declared.TheConstants.{SLOTS_PER_BLOCK}
 use Rattle.disk.specs.Crash.{Image}
-use Rattle.nfs_spec.specs.Model.Node.{DirectoryEntry, Node}
+use Rattle.nfs_spec.specs.Model.Node.{DirentValue, Node}
 use Rattle.nfs_spec.specs.Model.Sound.{SoundName}
 use Rattle.nfs_spec.specs.Model.Tree.{Tree}
 use Rattle.layout.specs.declared.fault.LayoutFault.{LayoutFault}
@@ -37,8 +37,8 @@ tree_of g blocks = record {
 }
 
 -- the numbers that entries name
-abbrev pub numbers_named : List (List ℕ × DirectoryEntry) → List ℕ
-numbers_named es = map (λ (e : List ℕ × DirectoryEntry). e.1.number) es
+abbrev pub numbers_named : List (List ℕ × DirentValue) → List ℕ
+numbers_named es = map (λ (e : List ℕ × DirentValue). e.1.number) es
 
 -- the numbers that the slots of an inode's directory name, and none of another kind
 abbrev pub named_numbers : ℕ → Image → InodeKind → Inode → List ℕ

@@ -3,7 +3,7 @@ use Rattle.std.specs.Prelude.{◌≡◌, ◌≢◌, ℕ, ◌+◌, ◌<◌, true,
 use Rattle.base.specs.declared.TheConstants.{ROOT}
 use Rattle.disk.specs.Crash.{Image}
 use Rattle.nfs_spec.specs.Model.Names.{ancestor, is_directory_at}
-use Rattle.nfs_spec.specs.Model.Node.{DirectoryEntry}
+use Rattle.nfs_spec.specs.Model.Node.{DirentValue}
 use Rattle.nfs_spec.specs.Model.Tree.{node_at}
 use Rattle.layout.specs.declared.geometry.Geometry.{Geometry}
 use Rattle.layout.specs.declared.inode.Inode.{Inode}
@@ -12,7 +12,7 @@ use Rattle.layout.specs.Decode.{named_in}
 use Rattle.layout.specs.Owners.{is_used}
 use Rattle.layout.specs.Parts.{content_in, parts_of, table_of}
 use Rattle.image_read.specs.Laws.TreeOf.{HasNames, all_named, named_numbers, tree_of}
-use Rattle.image_read.specs.Tallies.Tally.{times}
+use Rattle.image_read.specs.ImageCounts.Tally.{times}
 
 -- how often the slots of all directories name a number
 abbrev pub named : Geometry → Image → ℕ → ℕ
@@ -22,7 +22,7 @@ named g blocks number = times (all_named g (parts_of g blocks)) number
 -- other one is named once, by its parent; and each is reached from the root.
 pub record IsLinkedDirectory (g : Geometry) (blocks : Image) (number : ℕ) (inode : Inode) : Type 0 where
   pub counted : inode.nlink ≡ 2
-      + count_by (λ (e : List ℕ × DirectoryEntry). is_directory_at (node_at (tree_of g blocks) e.1.number))
+      + count_by (λ (e : List ℕ × DirentValue). is_directory_at (node_at (tree_of g blocks) e.1.number))
       (named_in g.inodes (content_in g blocks) inode)
   pub root : number ≡ ROOT → (named g blocks ROOT ≡ 0) × (inode.parent ≡ ROOT)
   pub once : number ≢ ROOT → named g blocks number ≡ 1

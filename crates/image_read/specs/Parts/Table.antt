@@ -22,16 +22,16 @@ HasRefusedInode g image = (number : ℕ) × (number < g.inodes) × (IsOk (inode_
 
 -- the inode at a place of a block of the table
 abbrev pub inode_in : Geometry → List ℕ → ℕ → Result (Option Inode) LayoutFault
-inode_in g block place = read_inode g (take INODE_BYTES (drop (INODE_BYTES * place) block))
+inode_in g block index_within = read_inode g (take INODE_BYTES (drop (INODE_BYTES * index_within) block))
 
 abbrev pub HasRefusedInodeIn : Geometry → List ℕ → Type 0
-HasRefusedInodeIn g block = (place : ℕ) × (place < INODES_PER_BLOCK) × (IsOk (inode_in g block place) → ⊥)
+HasRefusedInodeIn g block = (index_within : ℕ) × (index_within < INODES_PER_BLOCK) × (IsOk (inode_in g block index_within) → ⊥)
 
 -- behind these inodes come the first of a block
 pub record ArePushed (g : Geometry) (block : List ℕ) (count : ℕ) (old new : List (Option Inode)) : Type 0 where
   pub long : length new ≡ length old + count
-  pub kept : (number : ℕ) → number < length old → get_or new number None ≡ get_or old number None
-  pub each : (place : ℕ) → place < count → inode_in g block place ≡ Ok (get_or new (length old + place) None)
+  pub is_preserved : (number : ℕ) → number < length old → get_or new number None ≡ get_or old number None
+  pub each : (index_within : ℕ) → index_within < count → inode_in g block index_within ≡ Ok (get_or new (length old + index_within) None)
 
 -- a failure is counted just where the answer is that the device failed
 abbrev pub CountsPart : {T : Type 0} → Device → Device → Result T PartFault → Type 0

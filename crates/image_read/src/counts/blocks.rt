@@ -1,10 +1,10 @@
 //! The blocks that a file owns.
 ghost use Rattle.std.specs.Prelude.{◌≡◌, ◌++◌, ◌∷◌, [], ℕ, List, filter, length, true};
 ghost use Rattle.std.specs.List.{list_all};
-ghost use Rattle.image_read.specs.Tallies.Tally.{IsOwned};
+ghost use Rattle.image_read.specs.ImageCounts.Tally.{IsOwned};
 ghost use Rattle.image_read.specs.Counts.Adds.{is_none_or_below, is_some};
 
-use crate::tallies::Owners;
+use crate::image_counts::Owners;
 
 /// Meets the blocks of a file: the one with numbers and those of its indexes, as far as they are there.
 pub fn meet_blocks(owners: &mut Owners, indirect: u32, numbers: &[u32])
@@ -15,8 +15,8 @@ pub fn meet_blocks(owners: &mut Owners, indirect: u32, numbers: &[u32])
         → IsOwned (met ++ filter is_some (indirect ∷ numbers.now)) owners.new }
 {
     meet_block(owners, indirect);
-    'places: for place in 0..numbers.len() {
-        meet_block(owners, numbers[place]);
+    'places: for index_within in 0..numbers.len() {
+        meet_block(owners, numbers[index_within]);
     }
 }
 

@@ -5,7 +5,7 @@ ghost use Rattle.layout.specs.declared.inode.Inode.{Inode};
 ghost use Rattle.image_read.specs.Counts.Linked.{AreLinked, HasCounts, IsLinked, IsLinkedDirectory, IsRoot};
 
 use crate::counts::reached::are_reached;
-use crate::tallies::Named;
+use crate::image_counts::Named;
 use base::ROOT;
 use layout::{Inode, InodeKind};
 use nfs_types::Stamp;

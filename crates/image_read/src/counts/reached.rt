@@ -1,10 +1,10 @@
 //! Which directories are reached from the root.
 ghost use Rattle.std.specs.Prelude.{◌≡◌, ◌<◌, ◌≤◌, ℕ, None, Ok, get_or, length, true, false, IfOk};
 ghost use Rattle.base.specs.declared.TheConstants.{MOST_INODES, ROOT};
-ghost use Rattle.image_read.specs.Tallies.Led.{in_list};
+ghost use Rattle.image_read.specs.ImageCounts.Iterated.{in_list};
 ghost use Rattle.image_read.specs.Counts.Linked.{AreReached, is_directory_in, parent_below};
 
-use crate::tallies::led_far;
+use crate::image_counts::furthest_of;
 use base::ROOT;
 use layout::{Inode, InodeKind};
 use std::alloc::{AllocError, Global};
@@ -17,20 +17,20 @@ pub(crate) fn are_reached(alloc: Global, table: &[Option<Inode>]) -> Result<bool
         → AreReached table.now → ⊥ }
 {
     let parents = parents_of(alloc, table)?;
-    let far = led_far(alloc, &parents)?;
-    Ok(all_lead_to_root(table, &far))
+    let furthest = furthest_of(alloc, &parents)?;
+    Ok(all_lead_to_root(table, &furthest))
 }
 
 // Whether the root stands at the place of each directory.
-fn all_lead_to_root(table: &[Option<Inode>], far: &[u32]) -> bool
-    requires { length far.now ≡ length table.now }
+fn all_lead_to_root(table: &[Option<Inode>], furthest: &[u32]) -> bool
+    requires { length furthest.now ≡ length table.now }
     ensures yes { result ≡ true → (number : ℕ) → number < length table.now
-        → is_directory_in (get_or table.now number None) ≡ true → in_list far.now number ≡ ROOT }
+        → is_directory_in (get_or table.now number None) ≡ true → in_list furthest.now number ≡ ROOT }
     ensures no { result ≡ false → ((number : ℕ) → number < length table.now
-        → is_directory_in (get_or table.now number None) ≡ true → in_list far.now number ≡ ROOT) → ⊥ }
+        → is_directory_in (get_or table.now number None) ≡ true → in_list furthest.now number ≡ ROOT) → ⊥ }
 {
     'numbers: for number in 0..table.len() {
-        if is_directory(&table[number]) && far[number] != ROOT {
+        if is_directory(&table[number]) && furthest[number] != ROOT {
             return false;
         }
     }

@@ -4,13 +4,13 @@ ghost use Rattle.std.specs.List.{list_all};
 ghost use Rattle.base.specs.declared.TheConstants.{FIRST_DOUBLE_INDEX};
 ghost use Rattle.layout.specs.InodeForm.{SoundInode, is_data_block_or_none};
 ghost use Rattle.layout.specs.Places.{is_data};
-ghost use Rattle.circ.specs.Log.Recovery.{HasOnlyRead, IsUnspoiled, image_of};
-ghost use Rattle.image_read.specs.Overlays.LaidOver.{laid_over};
+ghost use Rattle.circ.specs.Log.Recovery.{HasOnlyRead, IsCertain, image_of};
+ghost use Rattle.image_read.specs.LoggedImage.WithOverlay.{with_overlay};
 ghost use Rattle.image_read.specs.Parts.Table.{CountsPart};
 ghost use Rattle.image_read.specs.Files.Content.{content_on};
-ghost use Rattle.image_read.specs.Files.Far.{AreFar, IsNearMapped, near_of};
+ghost use Rattle.image_read.specs.Files.RowNumbers.{AreRowNumbers, IsMappedBeforeDouble, numbers_before_double};
 
-use crate::overlays::Overlay;
+use crate::logged_image::Overlay;
 use crate::parts::PartFault;
 use base::INDIRECT_INDEXES;
 use disk::{Block, BlockNo, CrashDisk};
@@ -35,14 +35,14 @@ pub fn read_numbers<D: CrashDisk>(
     ensures len { IfOk result (λ numbers. length numbers.items ≡ FIRST_DOUBLE_INDEX) }
     ensures placed { IfOk result (λ numbers. list_all (is_data_block_or_none geometry.now) numbers.items ≡ true) }
     ensures indirect { IfOk result (λ _. is_data_block_or_none geometry.now inode.now.indirect ≡ true) }
-    ensures numbers { D.keeps_model disk.new → IsUnspoiled (D.device disk.old) → IfOk result (λ numbers.
+    ensures numbers { D.keeps_model disk.new → IsCertain (D.device disk.old) → IfOk result (λ numbers.
         (numbers.items
-        ≡ near_of (content_on geometry.now overlay.now (D.device disk.old)) inode.now)
-        × IsNearMapped geometry.now (content_on geometry.now overlay.now (D.device disk.old))
+        ≡ numbers_before_double (content_on geometry.now overlay.now (D.device disk.old)) inode.now)
+        × IsMappedBeforeDouble geometry.now (content_on geometry.now overlay.now (D.device disk.old))
         inode.now) }
-    ensures refused { D.keeps_model disk.new → IsUnspoiled (D.device disk.old) → SoundInode geometry.now inode.now
+    ensures refused { D.keeps_model disk.new → IsCertain (D.device disk.old) → SoundInode geometry.now inode.now
         → IsErrOf result PartFault.Range
-        → IsNearMapped geometry.now (content_on geometry.now overlay.now (D.device disk.old))
+        → IsMappedBeforeDouble geometry.now (content_on geometry.now overlay.now (D.device disk.old))
         inode.now → ⊥ }
 {
     if !are_placed(geometry, &inode.direct) {
@@ -53,8 +53,8 @@ pub fn read_numbers<D: CrashDisk>(
         numbers.extend_from_slice(&[0; INDIRECT_INDEXES])?;
         return Ok(numbers);
     }
-    let far = read_pointers(alloc, disk, overlay, geometry, inode.indirect)?;
-    numbers.extend_from_slice(far.as_slice())?;
+    let indirect_part = read_pointers(alloc, disk, overlay, geometry, inode.indirect)?;
+    numbers.extend_from_slice(indirect_part.as_slice())?;
     Ok(numbers)
 }
 
@@ -93,11 +93,11 @@ pub fn read_pointers<D: CrashDisk>(
     ensures model { D.keeps_model disk.new → D.keeps_model disk.old }
     ensures lies { IfOk result (λ _. is_data geometry.now pointer ≡ true) }
     ensures placed { IfOk result (λ numbers. list_all (is_data_block_or_none geometry.now) numbers ≡ true) }
-    ensures numbers { D.keeps_model disk.new → IsUnspoiled (D.device disk.old) → IfOk result
-        (AreFar geometry.now (laid_over overlay.now (image_of (D.device disk.old))) pointer) }
-    ensures refused { D.keeps_model disk.new → IsUnspoiled (D.device disk.old) → IsErrOf result PartFault.Range
+    ensures numbers { D.keeps_model disk.new → IsCertain (D.device disk.old) → IfOk result
+        (AreRowNumbers geometry.now (with_overlay overlay.now (image_of (D.device disk.old))) pointer) }
+    ensures refused { D.keeps_model disk.new → IsCertain (D.device disk.old) → IsErrOf result PartFault.Range
         → (numbers : List ℕ)
-        → AreFar geometry.now (laid_over overlay.now (image_of (D.device disk.old))) pointer numbers → ⊥ }
+        → AreRowNumbers geometry.now (with_overlay overlay.now (image_of (D.device disk.old))) pointer numbers → ⊥ }
 {
     if !geometry.is_data(pointer) {
         return Err(PartFault::Range);

@@ -7,12 +7,12 @@ ghost use Rattle.layout.specs.InodeForm.{is_data_block_or_none};
 ghost use Rattle.layout.specs.Places.{is_data};
 ghost use Rattle.layout.specs.SlotForm.{read_slot};
 ghost use Rattle.layout.specs.declared.slot.TheConstants.{SLOT_BYTES};
-ghost use Rattle.circ.specs.Log.Recovery.{HasOnlyRead, IsUnspoiled};
+ghost use Rattle.circ.specs.Log.Recovery.{HasOnlyRead, IsCertain};
 ghost use Rattle.image_read.specs.Parts.Table.{CountsPart};
 ghost use Rattle.image_read.specs.Files.Content.{AreLong, content_on};
 ghost use Rattle.image_read.specs.Files.Slots.{ArePushed, AreSlots, AreWithin, HasSlots, IsPushed, IsSpanned};
 
-use crate::overlays::Overlay;
+use crate::logged_image::Overlay;
 use crate::parts::PartFault;
 use base::{BLOCK_BYTES, SLOTS_PER_BLOCK};
 use disk::{Block, BlockNo, CrashDisk};
@@ -36,17 +36,17 @@ pub fn read_directory<D: CrashDisk>(
     ensures reads { HasOnlyRead (D.device disk.old) (D.device disk.new) }
     ensures failure { CountsPart (D.device disk.old) (D.device disk.new) result }
     ensures model { D.keeps_model disk.new → D.keeps_model disk.old }
-    ensures spanned { D.keeps_model disk.new → IsUnspoiled (D.device disk.old)
+    ensures spanned { D.keeps_model disk.new → IsCertain (D.device disk.old)
         → AreLong (content_on geometry.now overlay.now (D.device disk.old))
         → IfOk result (λ _. IsSpanned geometry.now.inodes
         (content_on geometry.now overlay.now (D.device disk.old)) inode.now numbers.now) }
     ensures within { IfOk result (λ slots. AreWithin geometry.now.inodes slots.items) }
-    ensures slots { D.keeps_model disk.new → IsUnspoiled (D.device disk.old)
+    ensures slots { D.keeps_model disk.new → IsCertain (D.device disk.old)
         → AreLong (content_on geometry.now overlay.now (D.device disk.old))
         → IfOk result (λ slots. HasSlots geometry.now.inodes
         (bytes_of (content_on geometry.now overlay.now (D.device disk.old))
         (take (span_of inode.now) numbers.now)) (SLOTS_PER_BLOCK * span_of inode.now) slots.items) }
-    ensures refused { D.keeps_model disk.new → IsUnspoiled (D.device disk.old)
+    ensures refused { D.keeps_model disk.new → IsCertain (D.device disk.old)
         → AreLong (content_on geometry.now overlay.now (D.device disk.old))
         → IsErrOf result PartFault.Range
         → IsSpanned geometry.now.inodes
@@ -97,12 +97,12 @@ fn read_slots<D: CrashDisk>(
     ensures failure { CountsPart (D.device disk.old) (D.device disk.new) result }
     ensures model { D.keeps_model disk.new → D.keeps_model disk.old }
     ensures within { IfOk result (λ slots. AreWithin geometry.now.inodes slots.items) }
-    ensures slots { D.keeps_model disk.new → IsUnspoiled (D.device disk.old)
+    ensures slots { D.keeps_model disk.new → IsCertain (D.device disk.old)
         → AreLong (content_on geometry.now overlay.now (D.device disk.old))
         → IfOk result (λ slots. HasSlots geometry.now.inodes
         (bytes_of (content_on geometry.now overlay.now (D.device disk.old)) numbers.now)
         (SLOTS_PER_BLOCK * length numbers.now) slots.items) }
-    ensures refused { D.keeps_model disk.new → IsUnspoiled (D.device disk.old)
+    ensures refused { D.keeps_model disk.new → IsCertain (D.device disk.old)
         → AreLong (content_on geometry.now overlay.now (D.device disk.old))
         → IsErrOf result PartFault.Range
         → AreSlots geometry.now.inodes
@@ -111,8 +111,8 @@ fn read_slots<D: CrashDisk>(
 {
     let mut slots = Vec::new(alloc);
     let mut block = Block::zeros(alloc)?;
-    'places: for place in 0..numbers.len() {
-        overlay.read(disk, BlockNo(numbers[place]), &mut block)?;
+    'places: for index_within in 0..numbers.len() {
+        overlay.read(disk, BlockNo(numbers[index_within]), &mut block)?;
         push_slots(alloc, geometry.inodes, block.as_slice(), &mut slots)?;
     }
     Ok(slots)
@@ -130,8 +130,8 @@ fn push_slots(
     ensures refused { IfErr result (λ fault. (fault ≡ PartFault.NoMemory)
         ⊎ ((fault ≡ PartFault.Range) × (AreSlots inodes block.now SLOTS_PER_BLOCK → ⊥))) }
 {
-    'places: for place in 0..SLOTS_PER_BLOCK {
-        push_slot(alloc, inodes, Slot::bytes_in(block, place), slots)?;
+    'places: for index_within in 0..SLOTS_PER_BLOCK {
+        push_slot(alloc, inodes, Slot::bytes_in(block, index_within), slots)?;
     }
     Ok(())
 }

@@ -5,11 +5,11 @@ ghost use Rattle.base.specs.declared.TheConstants.{BLOCK_BYTES, FIRST_DOUBLE_IND
 ghost use Rattle.layout.specs.Decode.{bytes_of, content_of};
 ghost use Rattle.layout.specs.Fields.{is_zeros};
 ghost use Rattle.layout.specs.InodeForm.{is_data_block_or_none};
-ghost use Rattle.circ.specs.Log.Recovery.{HasOnlyRead, IsUnspoiled};
+ghost use Rattle.circ.specs.Log.Recovery.{HasOnlyRead, IsCertain};
 ghost use Rattle.image_read.specs.Parts.Table.{CountsPart};
 ghost use Rattle.image_read.specs.Files.Content.{AreLong, content_on};
 
-use crate::overlays::Overlay;
+use crate::logged_image::Overlay;
 use crate::parts::PartFault;
 use base::BLOCK_BYTES;
 use disk::{Block, BlockNo, CrashDisk};
@@ -32,17 +32,24 @@ pub fn is_zero_past<D: CrashDisk>(
     ensures reads { HasOnlyRead (D.device disk.old) (D.device disk.new) }
     ensures failure { CountsPart (D.device disk.old) (D.device disk.new) result }
     ensures model { D.keeps_model disk.new → D.keeps_model disk.old }
-    ensures zeros { D.keeps_model disk.new → IsUnspoiled (D.device disk.old)
+    ensures zeros { D.keeps_model disk.new → IsCertain (D.device disk.old)
         → AreLong (content_on geometry.now overlay.now (D.device disk.old))
         → IfOk result (λ yes. yes ≡ is_zeros (drop size
         (bytes_of (content_on geometry.now overlay.now (D.device disk.old)) numbers.now))) }
     ensures other { IsErrOf result PartFault.Range → ⊥ }
 {
     let mut block = Block::zeros(alloc)?;
-    'places: for place in 0..numbers.len() {
-        let before = BLOCK_BYTES as u64 * place as u64;
+    'places: for index_within in 0..numbers.len() {
+        let before = BLOCK_BYTES as u64 * index_within as u64;
         let from = size.saturating_sub(before) as usize;
-        if !is_zero_block(disk, overlay, geometry, &mut block, numbers[place], from)? {
+        if !is_zero_block(
+            disk,
+            overlay,
+            geometry,
+            &mut block,
+            numbers[index_within],
+            from,
+        )? {
             return Ok(false);
         }
     }
@@ -65,7 +72,7 @@ fn is_zero_block<D: CrashDisk>(
     ensures reads { HasOnlyRead (D.device disk.old) (D.device disk.new) }
     ensures failure { CountsPart (D.device disk.old) (D.device disk.new) result }
     ensures model { D.keeps_model disk.new → D.keeps_model disk.old }
-    ensures zeros { D.keeps_model disk.new → IsUnspoiled (D.device disk.old)
+    ensures zeros { D.keeps_model disk.new → IsCertain (D.device disk.old)
         → AreLong (content_on geometry.now overlay.now (D.device disk.old))
         → IfOk result (λ yes. yes ≡ is_zeros (drop from
         (content_of (content_on geometry.now overlay.now (D.device disk.old)) number))) }

@@ -2,14 +2,14 @@
 ghost use Rattle.std.specs.Prelude.{◌≡◌, ◌+◌, ◌*◌, ◌/◌, ◌<◌, ◌≤◌, ℕ, Ok, get_or, length, true, false, IfOk, IsErrOf};
 ghost use Rattle.base.specs.declared.TheConstants.{BITS_PER_BLOCK, BLOCK_BYTES, MOST_BLOCKS};
 ghost use Rattle.layout.specs.Geometry.{bitmap_blocks};
-ghost use Rattle.circ.specs.Log.Recovery.{HasOnlyRead, IsUnspoiled, image_of};
-ghost use Rattle.image_read.specs.Overlays.LaidOver.{laid_over};
+ghost use Rattle.circ.specs.Log.Recovery.{HasOnlyRead, IsCertain, image_of};
+ghost use Rattle.image_read.specs.LoggedImage.WithOverlay.{with_overlay};
 ghost use Rattle.image_read.specs.Parts.Marks.{AreMarked, HasBits, bit_in, is_block_mark, is_inode_mark};
 ghost use Rattle.image_read.specs.Parts.Table.{CountsPart};
 
-use crate::overlays::Overlay;
+use crate::image_counts::Owners;
+use crate::logged_image::Overlay;
 use crate::parts::PartFault;
-use crate::tallies::Owners;
 use base::{BITS_PER_BLOCK, FIRST_HOME_BLOCK};
 use disk::{Block, BlockNo, CrashDisk};
 use layout::{Geometry, Inode};
@@ -31,10 +31,10 @@ pub fn are_marked<D: CrashDisk>(
     ensures reads { HasOnlyRead (D.device disk.old) (D.device disk.new) }
     ensures failure { CountsPart (D.device disk.old) (D.device disk.new) result }
     ensures model { D.keeps_model disk.new → D.keeps_model disk.old }
-    ensures yes { D.keeps_model disk.new → IsUnspoiled (D.device disk.old) → result ≡ Ok true
-        → AreMarked geometry.now (laid_over overlay.now (image_of (D.device disk.old))) owners.now table.now }
-    ensures no { D.keeps_model disk.new → IsUnspoiled (D.device disk.old) → result ≡ Ok false
-        → AreMarked geometry.now (laid_over overlay.now (image_of (D.device disk.old))) owners.now table.now
+    ensures yes { D.keeps_model disk.new → IsCertain (D.device disk.old) → result ≡ Ok true
+        → AreMarked geometry.now (with_overlay overlay.now (image_of (D.device disk.old))) owners.now table.now }
+    ensures no { D.keeps_model disk.new → IsCertain (D.device disk.old) → result ≡ Ok false
+        → AreMarked geometry.now (with_overlay overlay.now (image_of (D.device disk.old))) owners.now table.now
         → ⊥ }
     ensures other { IsErrOf result PartFault.Range → ⊥ }
 {
@@ -93,8 +93,8 @@ fn is_block_mark(geometry: &Geometry, owners: &Owners, number: u32) -> bool
 fn is_inode_mark(table: &[Option<Inode>], number: u32) -> bool
     ensures { result ≡ is_inode_mark table.now number }
 {
-    let place = number as usize;
-    number == 0 || table.len() <= place || table[place].is_some()
+    let index_within = number as usize;
+    number == 0 || table.len() <= index_within || table[index_within].is_some()
 }
 
 // Whether the bitmap that begins with a block has these bits, in whole blocks.
@@ -111,11 +111,11 @@ fn has_bits<D: CrashDisk>(
     ensures reads { HasOnlyRead (D.device disk.old) (D.device disk.new) }
     ensures failure { CountsPart (D.device disk.old) (D.device disk.new) result }
     ensures model { D.keeps_model disk.new → D.keeps_model disk.old }
-    ensures yes { D.keeps_model disk.new → IsUnspoiled (D.device disk.old) → result ≡ Ok true
-        → HasBits (laid_over overlay.now (image_of (D.device disk.old))) first.0
+    ensures yes { D.keeps_model disk.new → IsCertain (D.device disk.old) → result ≡ Ok true
+        → HasBits (with_overlay overlay.now (image_of (D.device disk.old))) first.0
         (length marks.now / BITS_PER_BLOCK) marks.now }
-    ensures no { D.keeps_model disk.new → IsUnspoiled (D.device disk.old) → result ≡ Ok false
-        → HasBits (laid_over overlay.now (image_of (D.device disk.old))) first.0
+    ensures no { D.keeps_model disk.new → IsCertain (D.device disk.old) → result ≡ Ok false
+        → HasBits (with_overlay overlay.now (image_of (D.device disk.old))) first.0
         (length marks.now / BITS_PER_BLOCK) marks.now → ⊥ }
     ensures other { IsErrOf result PartFault.Range → ⊥ }
 {

@@ -1,11 +1,11 @@
 //! The table of inodes.
 ghost use Rattle.std.specs.Prelude.{◌≡◌, ◌≤◌, ◌<◌, ◌⊎◌, ℕ, IfOk, IfErr, OnOk, IsErrOf, length};
 ghost use Rattle.base.specs.declared.TheConstants.{BLOCK_BYTES, INODES_PER_BLOCK};
-ghost use Rattle.circ.specs.Log.Recovery.{HasOnlyRead, IsUnspoiled, image_of};
-ghost use Rattle.image_read.specs.Overlays.LaidOver.{laid_over};
+ghost use Rattle.circ.specs.Log.Recovery.{HasOnlyRead, IsCertain, image_of};
+ghost use Rattle.image_read.specs.LoggedImage.WithOverlay.{with_overlay};
 ghost use Rattle.image_read.specs.Parts.Table.{ArePushed, CountsPart, HasRefusedInode, HasRefusedInodeIn, IsTable};
 
-use crate::overlays::Overlay;
+use crate::logged_image::Overlay;
 use crate::parts::PartFault;
 use base::{INODE_BYTES, INODES_PER_BLOCK};
 use disk::{Block, BlockNo, CrashDisk};
@@ -25,12 +25,12 @@ pub fn read_table<D: CrashDisk>(
     ensures failure { CountsPart (D.device disk.old) (D.device disk.new) result }
     ensures model { D.keeps_model disk.new → D.keeps_model disk.old }
     ensures len { IfOk result (λ table. length table.items ≡ geometry.now.inodes) }
-    ensures table { D.keeps_model disk.new → IsUnspoiled (D.device disk.old)
-        → IfOk result (λ table. IsTable geometry.now (laid_over overlay.now (image_of (D.device disk.old)))
+    ensures table { D.keeps_model disk.new → IsCertain (D.device disk.old)
+        → IfOk result (λ table. IsTable geometry.now (with_overlay overlay.now (image_of (D.device disk.old)))
         geometry.now.inodes table.items) }
-    ensures refused { D.keeps_model disk.new → IsUnspoiled (D.device disk.old)
+    ensures refused { D.keeps_model disk.new → IsCertain (D.device disk.old)
         → IsErrOf result PartFault.Range
-        → HasRefusedInode geometry.now (laid_over overlay.now (image_of (D.device disk.old))) }
+        → HasRefusedInode geometry.now (with_overlay overlay.now (image_of (D.device disk.old))) }
 {
     let mut table = Vec::with_capacity(alloc, geometry.inodes as usize)?;
     let mut block = Block::zeros(alloc)?;

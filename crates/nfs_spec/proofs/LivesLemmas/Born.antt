@@ -11,7 +11,7 @@ use Rattle.nfs_spec.specs.Model.Sound.{Sound}
 use Rattle.nfs_spec.specs.Model.Tree.{Tree, node_at}
 use Rattle.nfs_spec.proofs.ProceduresLemmas.Stale.{found_is, stamps_are, step_follows}
 use Rattle.nfs_spec.specs.Procedures.Histories.{stamp_of}
-use Rattle.nfs_spec.proofs.LivesLemmas.Order.{of_boot, one_there, raised, rises, some_there}
+use Rattle.nfs_spec.proofs.LivesLemmas.Order.{of_boot, one_there, boot_incremented, rises, some_there}
 use Rattle.nfs_spec.specs.Lives.Lives.{AtStart, Birth, ByEntry, CountedRun, Crashed, First, HasTree, IsLife, More}
 use Rattle.nfs_spec.specs.Lives.Lives.{with_new}
 
@@ -44,8 +44,8 @@ explained life is (First run there) number node here = record {
   early = (is.each 0 run there).made number node here;
 }
 explained life is (More {at = at} {place = place} {tree = tree} {births = births} before run entry next there
-    entry_is led) number node here =
-    elim ((step_follows tree next entry.ctx entry.call entry.reply led).stamps number node here) [
+    entry_is transition) number node here =
+    elim ((step_follows tree next entry.ctx entry.call entry.reply transition).stamps number node here) [
       | inl was ↦
           let kept : with_new tree births (ByEntry at (suc place)) number ≡ births number =
           ap (λ n. cond (is_some n) (births number) (ByEntry at (suc place))) was.old_is in
@@ -89,7 +89,7 @@ module _ (life : List CountedRun) (is : IsLife life) (stamp : Stamp) where
   not_earlier at place later behind less a b =
       let some = some_there a.run.entries a.index a.entry a.entry_is in
       let up : a.run.boot < b.run.boot =
-      raised life is at a.run a.there (later - suc at) later b.run (omega (arith, less)) b.there some in
+      boot_incremented life is at a.run a.there (later - suc at) later b.run (omega (arith, less)) b.there some in
       let first = boot_of at place a in
       let second = boot_of later behind b in
       omega (arith, up, first, second)

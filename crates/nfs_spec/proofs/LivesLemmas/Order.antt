@@ -54,18 +54,18 @@ module _ (life : List CountedRun) (is : IsLife life) (one : ℕ) (run : CountedR
       omega (arith, first, then)
 
   -- and a greater one, where the run committed anything
-  pub raised : (more later : ℕ) (next : CountedRun) → later ≡ suc (one + more)
+  pub boot_incremented : (more later : ℕ) (next : CountedRun) → later ≡ suc (one + more)
       → slice_get life later ≡ Some next → 0 < length run.entries → run.boot < next.boot
-  raised zero later next same at some =
+  boot_incremented zero later next same at some =
       let here : later ≡ suc one = omega (arith, same) in
       let there_too : slice_get life (suc one) ≡ Some next = ap (slice_get life) (sym here) ∙ at in
-      let boots = (is.left one run next there there_too).raised some in
+      let boots = (is.left one run next there there_too).boot_incremented some in
       omega (arith, boots)
-  raised (suc more) later next same at some =
+  boot_incremented (suc more) later next same at some =
       let here : later ≡ suc (suc (one + more)) = omega (arith, same) in
       let there_too : slice_get life (suc (suc (one + more))) ≡ Some next =
       ap (slice_get life) (sym here) ∙ at in
       let before = one_before life (suc (one + more)) next there_too in
-      let first = raised more (suc (one + more)) before.0 refl before.1 some in
+      let first = boot_incremented more (suc (one + more)) before.0 refl before.1 some in
       let then = no_less before.0 next (is.left (suc (one + more)) before.0 next before.1 there_too) in
       omega (arith, first, then)

@@ -16,17 +16,17 @@ walk : (life : List CountedRun) (at : ℕ) (run : CountedRun) → slice_get life
     → (rest : List Entry) (place : ℕ) (tree next : Tree)
     → ((index : ℕ) (e : Entry) → slice_get rest index ≡ Some e → slice_get run.entries (place + index) ≡ Some e)
     → Known life at place tree → after tree rest next → Known life at (place + length rest) next
-walk life at run there [] place tree next are known led =
+walk life at run there [] place tree next are known transition =
     subst (λ p. Known life at p next) (omega arith)
-    (subst (Known life at place) (sym led) known)
-walk life at run there (entry ∷ rest) place tree next are known led =
+    (subst (Known life at place) (sym transition) known)
+walk life at run there (entry ∷ rest) place tree next are known transition =
     let here : slice_get run.entries place ≡ Some entry =
     ap (slice_get run.entries) (omega arith) ∙ are 0 entry refl in
-    let then : Known life at (suc place) led.0 =
-    (_, More known.1 run entry led.0 there here led.1) in
+    let then : Known life at (suc place) transition.0 =
+    (_, More known.1 run entry transition.0 there here transition.1) in
     subst (λ p. Known life at p next) (omega arith)
-    (walk life at run there rest (suc place) led.0 next
-    (λ index e is. ap (slice_get run.entries) (omega arith) ∙ are (suc index) e is) then led.2)
+    (walk life at run there rest (suc place) transition.0 next
+    (λ index e is. ap (slice_get run.entries) (omega arith) ∙ are (suc index) e is) then transition.2)
 
 -- what is taken is there
 taken : (xs : List Entry) (count index : ℕ) (e : Entry) → slice_get (take count xs) index ≡ Some e
@@ -40,11 +40,11 @@ taken (x ∷ xs) (suc count) (suc index) e is = taken xs count index e is
 behind : (life : List CountedRun) (at : ℕ) (run : CountedRun) → slice_get life at ≡ Some run
     → Known life at 0 run.tree → (place : ℕ) (tree : Tree) → place ≤ length run.entries
     → after run.tree (take place run.entries) tree → Known life at place tree
-behind life at run there known place tree few led =
+behind life at run there known place tree few transition =
     let count = length-take-le place run.entries few in
     subst (λ p. Known life at p tree) (omega (arith, count))
     (walk life at run there (take place run.entries) 0 run.tree tree
-    (λ index e is. ap (slice_get run.entries) (omega arith) ∙ taken run.entries place index e is) known led)
+    (λ index e is. ap (slice_get run.entries) (omega arith) ∙ taken run.entries place index e is) known transition)
 
 first : (life : List CountedRun) → IsLife life → (at : ℕ) (run : CountedRun) → slice_get life at ≡ Some run
     → Known life at 0 run.tree
@@ -59,5 +59,5 @@ first life is (suc at) run there =
 pub reached : (life : List CountedRun) (at place : ℕ) (run : CountedRun) (tree : Tree)
     → IsLife life → slice_get life at ≡ Some run → place ≤ length run.entries
     → after run.tree (take place run.entries) tree → Known life at place tree
-reached life at place run tree is there few led =
-    behind life at run there (first life is at run there) place tree few led
+reached life at place run tree is there few transition =
+    behind life at run there (first life is at run there) place tree few transition

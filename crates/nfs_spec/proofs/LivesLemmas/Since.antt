@@ -44,7 +44,7 @@ born_by : (life : List CountedRun) → {at place : ℕ} {tree : Tree} {births : 
     → HasTree life at place tree births → (number : ℕ) → IsBornBy (births number) at place
 born_by life (First run there) number = tt
 born_by life (More {at = at} {place = place} {tree = tree} {births = births} before run entry next there entry_is
-    led) number =
+    transition) number =
     either_by (is_some (node_at tree number)) (births number) at place (born_by life before number)
 born_by life (Crashed {at = at} {place = place} {births = births} before next there same) number =
     over_crash (births number) at place (born_by life before number)
@@ -74,7 +74,7 @@ module _ (life : List CountedRun) (at place : ℕ) (tree : Tree) (births : ℕ �
   up_to : {later behind : ℕ} {next : Tree} {others : ℕ → Birth}
       → Leads life at place tree births later behind next others → IsUpTo at place later behind
   up_to Same = inr (refl, omega arith)
-  up_to (Then before run entry next there entry_is led) = more (up_to before)
+  up_to (Then before run entry next there entry_is transition) = more (up_to before)
     where
       more : {later behind : ℕ} → IsUpTo at place later behind → IsUpTo at place later (suc behind)
       more (inl less) = inl less
@@ -88,15 +88,15 @@ module _ (life : List CountedRun) (at place : ℕ) (tree : Tree) (births : ℕ �
   goes_on : {later behind : ℕ} {next : Tree} {others : ℕ → Birth} → HasTree life at place tree births
       → Leads life at place tree births later behind next others → HasTree life later behind next others
   goes_on has Same = has
-  goes_on has (Then before run entry next there entry_is led) =
-      More (goes_on has before) run entry next there entry_is led
+  goes_on has (Then before run entry next there entry_is transition) =
+      More (goes_on has before) run entry next there entry_is transition
   goes_on has (Over before next there same) = Crashed (goes_on has before) next there same
 
   same_geometry : {later behind : ℕ} {next : Tree} {others : ℕ → Birth}
       → Leads life at place tree births later behind next others → next.geometry ≡ tree.geometry
   same_geometry Same = refl
-  same_geometry (Then {middle = middle} before run entry next there entry_is led) =
-      (step_follows middle next entry.ctx entry.call entry.reply led).geometry ∙ same_geometry before
+  same_geometry (Then {middle = middle} before run entry next there entry_is transition) =
+      (step_follows middle next entry.ctx entry.call entry.reply transition).geometry ∙ same_geometry before
   same_geometry (Over before next there same) = ap (λ t. t.geometry) (sym same) ∙ same_geometry before
 
   made_after : (later behind : ℕ) → IsUpTo at place later behind
@@ -111,8 +111,8 @@ module _ (life : List CountedRun) (at place : ℕ) (tree : Tree) (births : ℕ �
       → IsBornAfter (others number) at place ⊎ WasThere tree number node.stamp
   since Same number node here = inr (record { old = node; old_is = here; stamp_is = refl })
   since (Then {later = later} {behind = behind} {middle = middle} {others = others} before run entry next there
-      entry_is led) number node here =
-      elim ((step_follows middle next entry.ctx entry.call entry.reply led).stamps number node here) [
+      entry_is transition) number node here =
+      elim ((step_follows middle next entry.ctx entry.call entry.reply transition).stamps number node here) [
         | inl was ↦
             let kept : with_new middle others (ByEntry later (suc behind)) number ≡ others number =
             ap (λ n. cond (is_some n) (others number) (ByEntry later (suc behind))) was.old_is in

@@ -54,11 +54,11 @@ found-stands tree handle found is =
     ap (node_at tree) (sym s.number_is) ∙ s.at_is
 
 module _ (tree next : Tree) (ctx : Ctx) (handle : List ℕ) (wanted : NewAttributes) (guard : Option Moment)
-    (outcome : Result (Unit {0}) Status) (told : WeakCacheData) (good : Sound tree)
+    (outcome : Result (Unit {0}) Status) (file_attributes : WeakCacheData) (good : Sound tree)
     (now : SoundTime ctx.moment) (fits : NewAttributesFit wanted) where
   set_or_left : (number : ℕ) (node : Node) (test : Option Status) → node_at tree number ≡ Some node
       → refusal ctx wanted guard node ≡ test
-      → SetOrLeft tree number node (with_attributes ctx.moment wanted node) test outcome told next
+      → SetOrLeft tree number node (with_attributes ctx.moment wanted node) test outcome file_attributes next
       → Sound next
   set_or_left number node (Some status) was tested left = subst Sound (sym left.unchanged) good
   set_or_left number node None was tested set =
@@ -69,7 +69,7 @@ module _ (tree next : Tree) (ctx : Ctx) (handle : List ℕ) (wanted : NewAttribu
       (good.files number node was).itself))
 
   set_found : (found : Result (ℕ × Node) Status) → find_file tree handle ≡ found
-      → SetFound tree ctx wanted guard found outcome told next → Sound next
+      → SetFound tree ctx wanted guard found outcome file_attributes next → Sound next
   set_found (Err status) is refused = subst Sound (sym refused.unchanged) good
   set_found (Ok found) is set =
       set_or_left found.0 found.1 (refusal ctx wanted guard found.1) (found-stands tree handle found is) refl
@@ -77,19 +77,19 @@ module _ (tree next : Tree) (ctx : Ctx) (handle : List ℕ) (wanted : NewAttribu
 
 -- a SETATTR keeps a sound tree sound
 pub stays_sound : (tree next : Tree) (ctx : Ctx) (handle : List ℕ) (wanted : NewAttributes)
-    (guard : Option Moment) (outcome : Result (Unit {0}) Status) (told : WeakCacheData)
+    (guard : Option Moment) (outcome : Result (Unit {0}) Status) (file_attributes : WeakCacheData)
     → Sound tree → SoundTime ctx.moment → NewAttributesFit wanted
-    → SetAttrStep tree ctx handle wanted guard outcome told next → Sound next
-stays_sound tree next ctx handle wanted guard outcome told good now fits step =
-    set_found tree next ctx handle wanted guard outcome told good now fits (find_file tree handle) refl step
+    → SetAttrStep tree ctx handle wanted guard outcome file_attributes next → Sound next
+stays_sound tree next ctx handle wanted guard outcome file_attributes good now fits step =
+    set_found tree next ctx handle wanted guard outcome file_attributes good now fits (find_file tree handle) refl step
 
 -- the answer to a SETATTR
 pub record SetAnswer (tree : Tree) (ctx : Ctx) (wanted : NewAttributes) (guard : Option Moment)
     (found : Result (ℕ × Node) Status) : Type 0 where
   pub outcome : Result (Unit {0}) Status
-  pub told : WeakCacheData
+  pub file_attributes : WeakCacheData
   pub next : Tree
-  pub is : SetFound tree ctx wanted guard found outcome told next
+  pub is : SetFound tree ctx wanted guard found outcome file_attributes next
 
 set_tested : (tree : Tree) (ctx : Ctx) (wanted : NewAttributes) (guard : Option Moment) (found : ℕ × Node)
     (test : Option Status) → refusal ctx wanted guard found.1 ≡ test
@@ -100,7 +100,7 @@ set_tested tree ctx wanted guard found None tested =
     (with_node tree found.0 new) = record { done = refl; parts = refl; changed = refl } in
     record {
       outcome = Ok tt;
-      told = change_of found.0 found.1 new;
+      file_attributes = change_of found.0 found.1 new;
       next = with_node tree found.0 new;
       is = subst (λ test. SetOrLeft tree found.0 found.1 new test (Ok tt) (change_of found.0 found.1 new)
           (with_node tree found.0 new)) (sym tested) step;
@@ -112,7 +112,7 @@ set_tested tree ctx wanted guard found (Some status) tested =
     record { refused = refl; parts = refl; unchanged = refl } in
     record {
       outcome = Err status;
-      told = change_of found.0 found.1 found.1;
+      file_attributes = change_of found.0 found.1 found.1;
       next = tree;
       is = subst (λ test. SetOrLeft tree found.0 found.1 new test (Err status)
           (change_of found.0 found.1 found.1) tree) (sym tested) step;
@@ -124,7 +124,7 @@ set_answer tree ctx wanted guard (Ok found) =
     set_tested tree ctx wanted guard found (refusal ctx wanted guard found.1) refl
 set_answer tree ctx wanted guard (Err status) = record {
   outcome = Err status;
-  told = untold;
+  file_attributes = untold;
   next = tree;
   is = record { refused = refl; parts = refl; unchanged = refl };
 }

@@ -15,10 +15,10 @@ use Rattle.nfs_spec.proofs.ModelLemmas.Attributed.{shape}
 use Rattle.nfs_spec.proofs.ModelLemmas.Replaced.{before}
 
 module _ (boot : ℕ) (tree next : Tree) (ctx : Ctx) (handle : List ℕ) (wanted : NewAttributes)
-    (guard : Option Moment) (outcome : Result (Unit {0}) Status) (told : WeakCacheData)
+    (guard : Option Moment) (outcome : Result (Unit {0}) Status) (file_attributes : WeakCacheData)
     (made : IsMadeBy boot tree) where
   set_or_left : (number : ℕ) (node : Node) (test : Option Status) → node_at tree number ≡ Some node
-      → SetOrLeft tree number node (with_attributes ctx.moment wanted node) test outcome told next
+      → SetOrLeft tree number node (with_attributes ctx.moment wanted node) test outcome file_attributes next
       → IsMadeBy boot next
   set_or_left number node (Some status) was left = subst (IsMadeBy boot) (sym left.unchanged) made
   set_or_left number node None was set =
@@ -29,13 +29,13 @@ module _ (boot : ℕ) (tree next : Tree) (ctx : Ctx) (handle : List ℕ) (wanted
       subst (λ stamp. stamp.boot ≤ boot) (sym b.shape_is.stamp) (made q b.node_before b.before_is))
 
   set_found : (found : Result (ℕ × Node) Status) → find_file tree handle ≡ found
-      → SetFound tree ctx wanted guard found outcome told next → IsMadeBy boot next
+      → SetFound tree ctx wanted guard found outcome file_attributes next → IsMadeBy boot next
   set_found (Err status) is refused = subst (IsMadeBy boot) (sym refused.unchanged) made
   set_found (Ok found) is set =
       set_or_left found.0 found.1 (refusal ctx wanted guard found.1) (found-stands tree handle found is) set
 
 pub no_later : (boot : ℕ) (tree next : Tree) (ctx : Ctx) (handle : List ℕ) (wanted : NewAttributes)
-    (guard : Option Moment) (outcome : Result (Unit {0}) Status) (told : WeakCacheData) → IsMadeBy boot tree
-    → SetAttrStep tree ctx handle wanted guard outcome told next → IsMadeBy boot next
-no_later boot tree next ctx handle wanted guard outcome told made step =
-    set_found boot tree next ctx handle wanted guard outcome told made (find_file tree handle) refl step
+    (guard : Option Moment) (outcome : Result (Unit {0}) Status) (file_attributes : WeakCacheData) → IsMadeBy boot tree
+    → SetAttrStep tree ctx handle wanted guard outcome file_attributes next → IsMadeBy boot next
+no_later boot tree next ctx handle wanted guard outcome file_attributes made step =
+    set_found boot tree next ctx handle wanted guard outcome file_attributes made (find_file tree handle) refl step

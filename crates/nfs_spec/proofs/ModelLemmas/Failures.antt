@@ -112,26 +112,26 @@ module _ (s : Status) (other : IsUntested s) where
       (is_not_permitted ctx.credential wanted node) (is_no_access ctx.credential wanted node)
       (given wanted.size (λ size. nat_lt LARGEST_FILE size))
 
-  left-not : (tree next : Tree) (number : ℕ) (node new : Node) (told : WeakCacheData) (test : Option Status)
-      → test ≢ Some s → SetOrLeft tree number node new test (Err s) told next → ⊥
-  left-not tree next number node new told None not set = let no = set.done in cc
-  left-not tree next number node new told (Some t) not left =
+  left-not : (tree next : Tree) (number : ℕ) (node new : Node) (file_attributes : WeakCacheData) (test : Option Status)
+      → test ≢ Some s → SetOrLeft tree number node new test (Err s) file_attributes next → ⊥
+  left-not tree next number node new file_attributes None not set = let no = set.done in cc
+  left-not tree next number node new file_attributes (Some t) not left =
       let same : s ≡ t = failed_is s t left.refused in
       not (λ i. Some (sym same i))
 
   set-not : (tree next : Tree) (ctx : Ctx) (wanted : NewAttributes) (guard : Option Moment)
-      (told : WeakCacheData) (found : Result (ℕ × Node) Status) → found ≢ Err s
-      → SetFound tree ctx wanted guard found (Err s) told next → ⊥
-  set-not tree next ctx wanted guard told (Ok found) not set =
-      left-not tree next found.0 found.1 (with_attributes ctx.moment wanted found.1) told
+      (file_attributes : WeakCacheData) (found : Result (ℕ × Node) Status) → found ≢ Err s
+      → SetFound tree ctx wanted guard found (Err s) file_attributes next → ⊥
+  set-not tree next ctx wanted guard file_attributes (Ok found) not set =
+      left-not tree next found.0 found.1 (with_attributes ctx.moment wanted found.1) file_attributes
       (refusal ctx wanted guard found.1) (refusal-not ctx wanted guard found.1) set
-  set-not tree next ctx wanted guard told (Err t) not refused =
+  set-not tree next ctx wanted guard file_attributes (Err t) not refused =
       let same : s ≡ t = failed_is s t refused.refused in
       not (λ i. Err (sym same i))
 
   pub no_answer : (tree next : Tree) (ctx : Ctx) (handle : List ℕ) (wanted : NewAttributes)
-      (guard : Option Moment) (outcome : Result (Unit {0}) Status) (told : WeakCacheData)
-      → SetAttrStep tree ctx handle wanted guard outcome told next → outcome ≢ Err s
-  no_answer tree next ctx handle wanted guard outcome told step is =
-      set-not tree next ctx wanted guard told (find_file tree handle) (found-not tree handle)
-      (subst (λ o. SetAttrStep tree ctx handle wanted guard o told next) is step)
+      (guard : Option Moment) (outcome : Result (Unit {0}) Status) (file_attributes : WeakCacheData)
+      → SetAttrStep tree ctx handle wanted guard outcome file_attributes next → outcome ≢ Err s
+  no_answer tree next ctx handle wanted guard outcome file_attributes step is =
+      set-not tree next ctx wanted guard file_attributes (find_file tree handle) (found-not tree handle)
+      (subst (λ o. SetAttrStep tree ctx handle wanted guard o file_attributes next) is step)

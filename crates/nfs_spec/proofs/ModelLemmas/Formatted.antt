@@ -6,7 +6,7 @@ use Rattle.std.specs.Ordering.{nat_cmp}
 use Rattle.std.specs.FinMap.{empty, entries, get, get-empty}
 use Rattle.base.specs.declared.TheConstants.{ROOT}
 use Rattle.nfs_types.specs.declared.ctx.Moment.{Moment}
-use Rattle.nfs_spec.specs.Model.Node.{Node, DirectoryEntry}
+use Rattle.nfs_spec.specs.Model.Node.{Node, DirentValue}
 use Rattle.nfs_spec.specs.Model.Tree.{Geometry, Tree, node_at, used}
 use Rattle.nfs_spec.specs.Model.Cost.{cost}
 use Rattle.nfs_spec.specs.Model.Names.{names_of, names_in, child_directories, is_directory_at}
@@ -14,19 +14,19 @@ use Rattle.nfs_spec.specs.Model.Sound.{Sound, SoundAt, SoundNode, SoundEntries, 
 use Rattle.nfs_spec.specs.Model.Format.{format_tree, format_root}
 use Rattle.nfs_spec.proofs.ModelLemmas.Maps.{entries-empty, entries-one, get-one, only_one}
 
-no_entry : (name : List ℕ) (entry : DirectoryEntry) {A : Type 0}
-    → get (empty {X = DirectoryEntry} {R = slice_cmp nat_cmp}) name ≡ Some entry → A
-no_entry name entry e = let none = get-empty {X = DirectoryEntry} (slice_cmp nat_cmp) name in cc
+no_dirent : (name : List ℕ) (dirent : DirentValue) {A : Type 0}
+    → get (empty {X = DirentValue} {R = slice_cmp nat_cmp}) name ≡ Some dirent → A
+no_dirent name dirent e = let none = get-empty {X = DirentValue} (slice_cmp nat_cmp) name in cc
 
-none : entries (empty {X = DirectoryEntry} {R = slice_cmp nat_cmp}) ≡ []
+none : entries (empty {X = DirentValue} {R = slice_cmp nat_cmp}) ≡ []
 none = entries-empty (slice_cmp nat_cmp)
 
 empty_directory : SoundEntries empty 0
 empty_directory = record {
   blocks = lit≤ tt;
-  names = λ name entry is. no_entry name entry is;
-  slots = λ name entry is. no_entry name entry is;
-  distinct = λ one other a b is _ _. no_entry one a is;
+  names = λ name dirent is. no_dirent name dirent is;
+  slots = λ name dirent is. no_dirent name dirent is;
+  distinct = λ one other a b is _ _. no_dirent one a is;
 }
 
 module _ (geometry : Geometry) (moment : Moment) where
@@ -40,17 +40,17 @@ module _ (geometry : Geometry) (moment : Moment) where
   root_is = get-one ROOT root ROOT
 
   unnamed : (number : ℕ) → names_in number root.body ≡ 0
-  unnamed number = ap (count_by (λ entry. nat_eq entry.1.number number)) none
+  unnamed number = ap (count_by (λ dirent. nat_eq dirent.1.number number)) none
 
   nameless : (number : ℕ) → names_of tree number ≡ 0
-  nameless number = ap (sum_by (λ entry. names_in number entry.1.body)) (entries-one ROOT root) ∙ zero-add _
+  nameless number = ap (sum_by (λ dirent. names_in number dirent.1.body)) (entries-one ROOT root) ∙ zero-add _
       ∙ unnamed number
 
   childless : child_directories tree root.body ≡ 0
-  childless = ap (count_by (λ entry. is_directory_at (node_at tree entry.1.number))) none
+  childless = ap (count_by (λ dirent. is_directory_at (node_at tree dirent.1.number))) none
 
   nothing_used : used tree ≡ 0
-  nothing_used = ap (sum_by (λ entry. cost entry.1.body)) (entries-one ROOT root)
+  nothing_used = ap (sum_by (λ dirent. cost dirent.1.body)) (entries-one ROOT root)
 
   sound_root : SoundTime moment → SoundNode root
   sound_root time = record {
@@ -71,8 +71,8 @@ module _ (geometry : Geometry) (moment : Moment) where
     least = lit< tt;
     most = let enough = fits.inodes in omega arith;
     itself = sound_root time;
-    names = subst (All (λ entry. IsSome (node_at tree entry.1.number))) (sym none)
-        (λ k entry below. absurd (omega arith));
+    names = subst (All (λ dirent. IsSome (node_at tree dirent.1.number))) (sym none)
+        (λ k dirent below. absurd (omega arith));
     links = λ no. cc;
     directory = λ _. record {
       counted = ap (λ n. 2 + n) (sym childless);
@@ -94,5 +94,5 @@ module _ (geometry : Geometry) (moment : Moment) where
         let here : SoundAt tree number root =
         subst (λ n. SoundAt tree n root) (sym only.0) (at_root fits time) in
         subst (SoundAt tree number) (sym only.1) here;
-    room = let used_is = nothing_used in omega arith;
+    has_space = let used_is = nothing_used in omega arith;
   }

@@ -63,22 +63,22 @@ module _ (tree : Tree) (number : ℕ) (old new : Node) (was : node_at tree numbe
 
   names : (q : ℕ) → names_of next q ≡ names_of tree q
   names q =
-      let sum = sum_insert (λ entry. names_in q entry.1.body) number old new tree.nodes was in
+      let sum = sum_insert (λ dirent. names_in q dirent.1.body) number old new tree.nodes was in
       let same : names_in q new.body ≡ names_in q old.body =
-      ap (count_by (λ entry. nat_eq entry.1.number q)) shape.entries_are in
+      ap (count_by (λ dirent. nat_eq dirent.1.number q)) shape.entries_are in
       omega (arith, sum, same)
 
   children : (body : Body) → child_directories next body ≡ child_directories tree body
-  children body = λ i. count_by (λ entry. directories entry.1.number i) (entries_of body)
+  children body = λ i. count_by (λ dirent. directories dirent.1.number i) (entries_of body)
 
   ancestors : (steps q : ℕ) → ancestor next steps q ≡ ancestor tree steps q
   ancestors zero q = refl
   ancestors (suc steps) q = ancestors steps (parent_in (node_at next q))
       ∙ ap (ancestor tree steps) (parents q)
 
-  room : used next ≤ used tree
-  room =
-      let sum = sum_insert (λ entry. cost entry.1.body) number old new tree.nodes was in
+  has_space : used next ≤ used tree
+  has_space =
+      let sum = sum_insert (λ dirent. cost dirent.1.body) number old new tree.nodes was in
       omega (arith, sum, shape.cost_is)
 
   -- a file that stands there now, and the one that stood there
@@ -140,43 +140,43 @@ module _ (tree : Tree) (number : ℕ) (old new : Node) (was : node_at tree numbe
   now q node e = now_of q node (eq_by_cmp nat_cmp q number) refl e
 
   module _ (q : ℕ) (first node : Node) (at : SoundAt tree q first) (same : SameShape first node) where
-    root_kept : SoundRoot tree first.body → SoundRoot next node.body
-    root_kept root = record { unnamed = names ROOT ∙ root.unnamed; parent = same.parent ∙ root.parent }
+    root_preserved : SoundRoot tree first.body → SoundRoot next node.body
+    root_preserved root = record { unnamed = names ROOT ∙ root.unnamed; parent = same.parent ∙ root.parent }
 
-    child_kept : SoundChild tree q first.body → SoundChild next q node.body
-    child_kept child =
+    child_preserved : SoundChild tree q first.body → SoundChild next q node.body
+    child_preserved child =
         let parent = now (parent_of first.body) child.parent child.parent_is in
         record {
           once = names q ∙ child.once;
           parent = parent.node_now;
           parent_is = ap (node_at next) same.parent ∙ parent.now_is;
-          by_parent = ap (count_by (λ entry. nat_eq entry.1.number q)) parent.entries_now ∙ child.by_parent;
+          by_parent = ap (count_by (λ dirent. nat_eq dirent.1.number q)) parent.entries_now ∙ child.by_parent;
         }
 
-    directory_kept : SoundDirectoryLinks tree q first → SoundDirectoryLinks next q node
-    directory_kept d = record {
+    directory_preserved : SoundDirectoryLinks tree q first → SoundDirectoryLinks next q node
+    directory_preserved d = record {
       counted = same.nlink ∙ d.counted
           ∙ ap (λ n. 2 + n)
-          (ap (count_by (λ entry. is_directory_at (node_at tree entry.1.number))) (sym same.entries_are)
+          (ap (count_by (λ dirent. is_directory_at (node_at tree dirent.1.number))) (sym same.entries_are)
           ∙ sym (children node.body));
-      root = λ is. root_kept (d.root is);
-      child = λ other. child_kept (d.child other);
+      root = λ is. root_preserved (d.root is);
+      child = λ other. child_preserved (d.child other);
       reached = (d.reached.0, ancestors d.reached.0 q ∙ d.reached.1);
     }
 
-    at_kept : SoundNode node → SoundAt next q node
-    at_kept good = record {
+    at_preserved : SoundNode node → SoundAt next q node
+    at_preserved good = record {
       least = at.least;
       most = at.most;
       itself = good;
-      names = subst (All (λ entry. IsSome (node_at next entry.1.number))) (sym same.entries_are)
+      names = subst (All (λ dirent. IsSome (node_at next dirent.1.number))) (sym same.entries_are)
           (λ k d below. there (get_or (entries_of first.body) k d).1.number ∙ at.names k d below);
       links = λ no. let file = at.links (sym same.directory ∙ no) in
           record {
             counted = same.nlink ∙ file.counted ∙ sym (names q);
             named = subst (λ n. 0 < n) (sym same.nlink) file.named;
           };
-      directory = λ yes. directory_kept (at.directory (sym same.directory ∙ yes));
+      directory = λ yes. directory_preserved (at.directory (sym same.directory ∙ yes));
     }
 
   -- the tree stays sound
@@ -192,6 +192,6 @@ module _ (tree : Tree) (number : ℕ) (old new : Node) (was : node_at tree numbe
         files = λ q node is.
             let b = before q node is in
             let at = good.files q b.node_before b.before_is in
-            at_kept q b.node_before node at b.shape_is (b.sound_is new_good at.itself);
-        room = let less = room in omega (arith, less, good.room);
+            at_preserved q b.node_before node at b.shape_is (b.sound_is new_good at.itself);
+        has_space = let less = has_space in omega (arith, less, good.has_space);
       }

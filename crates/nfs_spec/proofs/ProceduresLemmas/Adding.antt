@@ -12,7 +12,7 @@ use Rattle.nfs_spec.specs.Model.Sound.{SoundNode}
 use Rattle.nfs_spec.specs.Model.Tree.{Tree, node_at}
 use Rattle.nfs_spec.proofs.ProceduresLemmas.Tests.{differs, unequal, yes_or_no}
 use Rattle.nfs_spec.proofs.ProceduresLemmas.Keeping.{names_in_none}
-use Rattle.nfs_spec.proofs.ProceduresLemmas.Lacking.{Change, Kept, Lacking, LackingAt, LackingChild}
+use Rattle.nfs_spec.proofs.ProceduresLemmas.Lacking.{Change, ArePreserved, Lacking, LackingAt, LackingChild}
 use Rattle.nfs_spec.proofs.ProceduresLemmas.Lacking.{Reached, changed_tree, equal_or_not}
 use Rattle.nfs_spec.proofs.ProceduresLemmas.Parts.{count_alike, each_fails, part, sum_none, sum_remove}
 use Rattle.nfs_spec.proofs.ProceduresLemmas.Sums.{got_at}
@@ -24,40 +24,40 @@ pub names_in_of : (tree : Tree) (at q : ℕ) (node : Node) → node_at tree at �
     → names_in q node.body ≤ names_of tree q
 names_in_of tree at q node is =
     let sum = sum_remove nat_cmp_total nat_cmp-IsAntisymmetric
-    (λ entry. names_in q entry.1.body) tree.nodes at in
-    let counts = ap (part (λ entry. names_in q entry.1.body) at) is in
+    (λ dirent. names_in q dirent.1.body) tree.nodes at in
+    let counts = ap (part (λ dirent. names_in q dirent.1.body) at) is in
     omega (arith, sum, counts)
 
 module _ (tree next : Tree) (lacks after : ℕ → ℕ) (number : ℕ) (old new : Option Node)
     (change : Change tree next number old new) (good : Lacking tree lacks)
     (unnamed : names_of tree number ≡ 0)
     (others : (q : ℕ) → q ≢ number → after q ≡ lacks q)
-    (nothing_old : (q : ℕ) → part (λ entry. names_in q entry.1.body) number old ≡ 0)
-    (nothing_new : (q : ℕ) → part (λ entry. names_in q entry.1.body) number new ≡ 0)
+    (nothing_old : (q : ℕ) → part (λ dirent. names_in q dirent.1.body) number old ≡ 0)
+    (nothing_new : (q : ℕ) → part (λ dirent. names_in q dirent.1.body) number new ≡ 0)
     (childless : (q : ℕ) (node : Node) → node_at tree q ≡ Some node → is_directory node.body ≡ true
     → q ≢ number → parent_of node.body ≢ number) where
   pub same_names : (q : ℕ) → names_of next q ≡ names_of tree q
   same_names q =
-      let sum = change.sums (λ entry. names_in q entry.1.body) in
+      let sum = change.sums (λ dirent. names_in q dirent.1.body) in
       let old_none = nothing_old q in
       let new_none = nothing_new q in
       omega (arith, sum, old_none, new_none)
 
   -- no file of the tree names the number
-  entry_apart : (at : ℕ) (node : Node) → node_at tree at ≡ Some node → (index : ℕ) (d : _)
+  dirent_apart : (at : ℕ) (node : Node) → node_at tree at ≡ Some node → (index : ℕ) (d : _)
       → index < length (entries_of node.body) → (get_or (entries_of node.body) index d).1.number ≢ number
-  entry_apart at node is index d inside =
+  dirent_apart at node is index d inside =
       let less = names_in_of tree at number node is in
       differs _ _
-      (each_fails (λ entry. nat_eq entry.1.number number) (entries_of node.body) (omega (arith, less, unnamed))
+      (each_fails (λ dirent. nat_eq dirent.1.number number) (entries_of node.body) (omega (arith, less, unnamed))
       index d inside)
 
   children : (at : ℕ) (node : Node) → node_at tree at ≡ Some node
       → child_directories next node.body ≡ child_directories tree node.body
   children at node is =
-      count_alike (λ entry. is_directory_at (node_at next entry.1.number))
-      (λ entry. is_directory_at (node_at tree entry.1.number)) (entries_of node.body)
-      (λ index d inside. ap is_directory_at (change.there _ (entry_apart at node is index d inside)))
+      count_alike (λ dirent. is_directory_at (node_at next dirent.1.number))
+      (λ dirent. is_directory_at (node_at tree dirent.1.number)) (entries_of node.body)
+      (λ index d inside. ap is_directory_at (change.there _ (dirent_apart at node is index d inside)))
 
   no_parent_by : (q : ℕ) (at : Option Node) → node_at tree q ≡ at → q ≢ number → 0 < number
       → parent_in at ≢ number
@@ -79,17 +79,17 @@ module _ (tree next : Tree) (lacks after : ℕ → ℕ) (number : ℕ) (old new 
       ap (λ o. ancestor next steps (parent_in o)) (change.there q apart)
       ∙ ancestors some steps (parent_in (node_at tree q)) (no_parent_by q (node_at tree q) refl apart some)
 
-  beside : 0 < number → (q : ℕ) (node : Node) → q ≢ number → node_at tree q ≡ Some node
-      → Kept tree next lacks after q node node
-  beside some q node apart is =
+  unaffected : 0 < number → (q : ℕ) (node : Node) → q ≢ number → node_at tree q ≡ Some node
+      → ArePreserved tree next lacks after q node node
+  unaffected some q node apart is =
       let at = good.files q node is in
       let named : names_of next q + after q ≡ names_of tree q + lacks q =
-      let same = same_names q in let keeps = others q apart in omega (arith, same, keeps) in
+      let same = same_names q in let preserves = others q apart in omega (arith, same, preserves) in
       record {
         itself = at.itself;
         directory = refl;
         names = λ index d inside.
-            ap is_some (change.there _ (entry_apart q node is index d inside)) ∙ at.names index d inside;
+            ap is_some (change.there _ (dirent_apart q node is index d inside)) ∙ at.names index d inside;
         links = λ no file. record {
           counted = let was = file.counted in omega (arith, was, named);
           named = file.named;
@@ -128,11 +128,11 @@ module _ (tree : Tree) (lacks : ℕ → ℕ) (number : ℕ) (good : Lacking tree
   -- no entry names an unused number
   pub unnamed_unused : names_of tree number ≡ 0
   unnamed_unused =
-      sum_none (λ entry. names_in number entry.1.body) (entries tree.nodes) (λ index d inside.
-      let entry = get_or (entries tree.nodes) index d in
-      let at = good.files entry.0 entry.1 (got_at tree.nodes d index inside) in
-      sum_none (λ e. cond (nat_eq e.1.number number) 1 0) (entries_of entry.1.body) (λ place e below.
-      ap (λ b. cond b 1 0) (unequal _ _ (some_other _ (at.names place e below)))))
+      sum_none (λ dirent. names_in number dirent.1.body) (entries tree.nodes) (λ index d inside.
+      let dirent = get_or (entries tree.nodes) index d in
+      let at = good.files dirent.0 dirent.1 (got_at tree.nodes d index inside) in
+      sum_none (λ e. cond (nat_eq e.1.number number) 1 0) (entries_of dirent.1.body) (λ index_within e below.
+      ap (λ b. cond b 1 0) (unequal _ _ (some_other _ (at.names index_within e below)))))
 
   pub no_child : (q : ℕ) (node : Node) → node_at tree q ≡ Some node → is_directory node.body ≡ true
       → q ≢ number → parent_of node.body ≢ number
@@ -159,7 +159,7 @@ module _ (tree next : Tree) (lacks after : ℕ → ℕ) (number : ℕ) (new : No
       (λ q. refl) adds_nothing (no_child tree lacks number good change.was)
 
   children_now : child_directories next new.body ≡ 0
-  children_now = ap (count_by (λ entry. is_directory_at (node_at next entry.1.number))) add.empty
+  children_now = ap (count_by (λ dirent. is_directory_at (node_at next dirent.1.number))) add.empty
 
   not_itself : (p : ℕ) (parent : Node) → node_at tree p ≡ Some parent → p ≢ number
   not_itself p parent is same =
@@ -193,7 +193,7 @@ module _ (tree next : Tree) (lacks after : ℕ → ℕ) (number : ℕ) (new : No
     least = add.least;
     most = subst (λ g. number < g.inodes) (sym change.geometry) add.most;
     itself = add.itself;
-    names = subst (All (λ entry. IsSome (node_at next entry.1.number))) (sym add.empty)
+    names = subst (All (λ dirent. IsSome (node_at next dirent.1.number))) (sym add.empty)
         (λ index d inside. absurd (omega (arith, inside)));
     links = λ no. record {
       counted =
@@ -219,7 +219,7 @@ module _ (tree next : Tree) (lacks after : ℕ → ℕ) (number : ℕ) (new : No
       (λ node is.
       let one : new ≡ node = cc in
       subst (LackingAt next after number) one added_at)
-      (beside tree next lacks after number None (Some new) change good unused add.others
+      (unaffected tree next lacks after number None (Some new) change good unused add.others
       (λ q. refl) adds_nothing
       (no_child tree lacks number good change.was) add.least) (
         λ is. let never : false ≡ true =
@@ -265,5 +265,5 @@ module _ (tree next : Tree) (lacks after : ℕ → ℕ) (number : ℕ) (old : No
   gone =
       changed_tree tree next lacks after number (Some old) None change good
       (λ node is. cc)
-      (beside tree next lacks after number (Some old) None change good going.unnamed going.others names_none
+      (unaffected tree next lacks after number (Some old) None change good going.unnamed going.others names_none
       (λ q. refl) no_child_of (good.files number old change.was).least) going.not_root

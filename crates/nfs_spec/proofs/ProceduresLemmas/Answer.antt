@@ -24,7 +24,7 @@ use Rattle.nfs_spec.specs.Procedures.FsInfo.{file_system_info}
 use Rattle.nfs_spec.specs.Procedures.FsStat.{space_of}
 use Rattle.nfs_spec.specs.Procedures.Kinds.{may_make_file}
 use Rattle.nfs_spec.specs.Procedures.Link.{linking}
-use Rattle.nfs_spec.specs.Procedures.Lookup.{look_up}
+use Rattle.nfs_spec.specs.Procedures.Lookup.{lookup_name}
 use Rattle.nfs_spec.specs.Procedures.MkDir.{make_directory}
 use Rattle.nfs_spec.specs.Procedures.PathConf.{path_limits}
 use Rattle.nfs_spec.specs.Procedures.Read.{read}
@@ -35,21 +35,21 @@ use Rattle.nfs_spec.specs.Procedures.Remove.{remove}
 use Rattle.nfs_spec.specs.Procedures.Rename.{renaming}
 use Rattle.nfs_spec.specs.Procedures.RmDir.{remove_directory}
 use Rattle.nfs_spec.specs.Procedures.SymLink.{make_link}
-use Rattle.nfs_spec.specs.Procedures.Told.{Acts, Effect, Tells, answer_of, change_told, told_in, tree_after}
+use Rattle.nfs_spec.specs.Procedures.StepForms.{Acts, Effect, Tells, answer_of, change_between, attributes_in, tree_after}
 use Rattle.nfs_spec.specs.Procedures.Step.{numbered_step}
 use Rattle.nfs_spec.specs.Procedures.Write.{write}
 
 module _ {A : Type 0} (tree : Tree) (handle : List ℕ) where
   module _ (put : Result A Status → Option Attributes → Reply) (tell : ℕ → Node → Result A Status) where
-    abbrev told_reply : Reply × Tree
-    told_reply = (put (found_then (find_file tree handle) tell) (told_in tree (find_file tree handle)), tree)
+    abbrev query_reply_of : Reply × Tree
+    query_reply_of = (put (found_then (find_file tree handle) tell) (attributes_in tree (find_file tree handle)), tree)
 
-    is_told : (outcome : Result A Status) (object : Option Attributes) (next : Tree)
-        → Tells tree handle tell outcome object next → (put outcome object, next) ≡ told_reply
-    is_told outcome object next t = λ i. (put (t.answered i) (t.parts i), t.unchanged i)
+    is_query_reply : (outcome : Result A Status) (object : Option Attributes) (next : Tree)
+        → Tells tree handle tell outcome object next → (put outcome object, next) ≡ query_reply_of
+    is_query_reply outcome object next t = λ i. (put (t.answered i) (t.parts i), t.unchanged i)
 
   tells : (tell : ℕ → Node → Result A Status)
-      → Tells tree handle tell (found_then (find_file tree handle) tell) (told_in tree
+      → Tells tree handle tell (found_then (find_file tree handle) tell) (attributes_in tree
       (find_file tree handle)) tree
   tells tell = record { answered = refl; parts = refl; unchanged = refl }
 
@@ -57,19 +57,19 @@ module _ {A : Type 0} (tree : Tree) (handle : List ℕ) where
     abbrev acted_reply : Reply × Tree
     acted_reply =
         let result = found_then (find_file tree handle) act in (
-          put (answer_of result) (change_told (tree_after tree result) (find_file tree handle)),
+          put (answer_of result) (change_between (tree_after tree result) (find_file tree handle)),
           tree_after tree result,
         )
 
-    is_acted : (outcome : Result A Status) (told : WeakCacheData) (next : Tree)
-        → Acts tree handle act outcome told next → (put outcome told, next) ≡ acted_reply
-    is_acted outcome told next t =
-        let parts = t.parts ∙ ap (λ n. change_told n (find_file tree handle)) t.leads in
+    is_acted : (outcome : Result A Status) (file_attributes : WeakCacheData) (next : Tree)
+        → Acts tree handle act outcome file_attributes next → (put outcome file_attributes, next) ≡ acted_reply
+    is_acted outcome file_attributes next t =
+        let parts = t.parts ∙ ap (λ n. change_between n (find_file tree handle)) t.leads in
         λ i. (put (t.answered i) (parts i), t.leads i)
 
   acts : (act : ℕ → Node → Result (Effect A) Status)
       → let result = found_then (find_file tree handle) act in
-      Acts tree handle act (answer_of result) (change_told (tree_after tree result) (find_file tree handle))
+      Acts tree handle act (answer_of result) (change_between (tree_after tree result) (find_file tree handle))
       (tree_after tree result)
   acts act = record { answered = refl; leads = refl; parts = refl }
 
@@ -80,20 +80,20 @@ module _ (tree : Tree) (ctx : Ctx) (new : Option ℕ) where
   answer (call.GetAttr object) = (reply.GetAttr (attributes_found (find_file tree object.bytes)), tree)
   answer (call.SetAttr object wanted guard) =
       let set = set_answer tree ctx wanted guard (find_file tree object.bytes) in
-      (reply.SetAttr set.outcome set.told, set.next)
+      (reply.SetAttr set.outcome set.file_attributes, set.next)
   answer (call.Lookup name) =
-      told_reply tree name.directory.bytes reply.Lookup (look_up tree ctx.credential name.name)
-  answer (call.Access object bits) = told_reply tree object.bytes reply.Access (granted ctx.credential bits)
-  answer (call.ReadLink link) = told_reply tree link.bytes reply.ReadLink (λ _ node. target_of node.body)
+      query_reply_of tree name.directory.bytes reply.Lookup (lookup_name tree ctx.credential name.name)
+  answer (call.Access object bits) = query_reply_of tree object.bytes reply.Access (granted ctx.credential bits)
+  answer (call.ReadLink link) = query_reply_of tree link.bytes reply.ReadLink (λ _ node. target_of node.body)
   answer (call.Read file offset count) =
-      told_reply tree file.bytes reply.Read (read ctx.credential offset count)
+      query_reply_of tree file.bytes reply.Read (read ctx.credential offset count)
   answer (call.ReadDir directory cookie verifier count) =
-      told_reply tree directory.bytes reply.ReadDir (list ctx.credential cookie verifier count)
-  answer (call.ReadDirPlus directory cookie verifier names_count count) = told_reply tree directory.bytes
+      query_reply_of tree directory.bytes reply.ReadDir (list ctx.credential cookie verifier count)
+  answer (call.ReadDirPlus directory cookie verifier names_count count) = query_reply_of tree directory.bytes
       reply.ReadDirPlus (list_plus tree ctx.credential cookie verifier names_count count)
-  answer (call.FsStat object) = told_reply tree object.bytes reply.FsStat (λ _ _. Ok (space_of tree))
-  answer (call.FsInfo object) = told_reply tree object.bytes reply.FsInfo (λ _ _. Ok file_system_info)
-  answer (call.PathConf object) = told_reply tree object.bytes reply.PathConf (λ _ _. Ok path_limits)
+  answer (call.FsStat object) = query_reply_of tree object.bytes reply.FsStat (λ _ _. Ok (space_of tree))
+  answer (call.FsInfo object) = query_reply_of tree object.bytes reply.FsInfo (λ _ _. Ok file_system_info)
+  answer (call.PathConf object) = query_reply_of tree object.bytes reply.PathConf (λ _ _. Ok path_limits)
   answer (call.Write file offset count stability text) =
       acted_reply tree file.bytes reply.Write (write tree ctx offset count stability text)
   answer (call.Create name how) =
@@ -113,22 +113,22 @@ module _ (tree : Tree) (ctx : Ctx) (new : Option ℕ) where
       let next = tree_after tree result in
       let found = find_file tree source.directory.bytes in
       let other = after_first found (find_file tree target.directory.bytes) in
-      (reply.Rename (answer_of result) (change_told next found) (change_told next other), next)
+      (reply.Rename (answer_of result) (change_between next found) (change_between next other), next)
   answer (call.Link file name) =
       let result = linking tree ctx file.bytes name.directory.bytes name.name in
       let next = tree_after tree result in
       let found = find_file tree file.bytes in
       let other = after_first found (find_file tree name.directory.bytes) in
-      (reply.Link (answer_of result) (told_in next found) (change_told next other), next)
+      (reply.Link (answer_of result) (attributes_in next found) (change_between next other), next)
 
   -- it is a step
   pub answered : (asked : Call) → asked ≢ call.Null
       → numbered_step tree ctx new asked (answer asked).0 (answer asked).1
   answered call.Null some = absurd (some refl)
-  answered (call.GetAttr object) some = record { told = refl; unchanged = refl }
+  answered (call.GetAttr object) some = record { attributes_answered = refl; unchanged = refl }
   answered (call.SetAttr object wanted guard) some =
       (set_answer tree ctx wanted guard (find_file tree object.bytes)).is
-  answered (call.Lookup name) some = tells tree name.directory.bytes (look_up tree ctx.credential name.name)
+  answered (call.Lookup name) some = tells tree name.directory.bytes (lookup_name tree ctx.credential name.name)
   answered (call.Access object bits) some = tells tree object.bytes (granted ctx.credential bits)
   answered (call.ReadLink link) some = tells tree link.bytes (λ _ node. target_of node.body)
   answered (call.Read file offset count) some = tells tree file.bytes (read ctx.credential offset count)
@@ -159,63 +159,63 @@ module _ (tree : Tree) (ctx : Ctx) (new : Option ℕ) where
   pub is_answer : (asked : Call) (given : Reply) (next : Tree) → numbered_step tree ctx new asked given next
       → (given, next) ≡ answer asked
   is_answer (call.GetAttr object) (reply.GetAttr outcome) next s =
-      λ i. (reply.GetAttr (s.told i), s.unchanged i)
-  is_answer (call.SetAttr object wanted guard) (reply.SetAttr outcome told) next s =
+      λ i. (reply.GetAttr (s.attributes_answered i), s.unchanged i)
+  is_answer (call.SetAttr object wanted guard) (reply.SetAttr outcome file_attributes) next s =
       let set = set_answer tree ctx wanted guard (find_file tree object.bytes) in
-      let same = set_found tree ctx wanted guard (find_file tree object.bytes) outcome set.outcome told set.told
+      let same = set_found tree ctx wanted guard (find_file tree object.bytes) outcome set.outcome file_attributes set.file_attributes
       next set.next s set.is in
-      λ i. (reply.SetAttr (same.outcome_is i) (same.told_is i), same.next_is i)
-  is_answer (call.Lookup name) (reply.Lookup outcome told) next s =
-      is_told tree name.directory.bytes reply.Lookup
-      (look_up tree ctx.credential name.name) outcome told next s
-  is_answer (call.Access object bits) (reply.Access outcome told) next s =
-      is_told tree object.bytes reply.Access (granted ctx.credential bits) outcome told next s
-  is_answer (call.ReadLink link) (reply.ReadLink outcome told) next s =
-      is_told tree link.bytes reply.ReadLink (λ _ node. target_of node.body) outcome told next s
-  is_answer (call.Read file offset count) (reply.Read outcome told) next s =
-      is_told tree file.bytes reply.Read (read ctx.credential offset count) outcome told next s
-  is_answer (call.ReadDir directory cookie verifier count) (reply.ReadDir outcome told) next s =
-      is_told tree directory.bytes reply.ReadDir
-      (list ctx.credential cookie verifier count) outcome told next s
+      λ i. (reply.SetAttr (same.outcome_is i) (same.attributes_same i), same.next_is i)
+  is_answer (call.Lookup name) (reply.Lookup outcome file_attributes) next s =
+      is_query_reply tree name.directory.bytes reply.Lookup
+      (lookup_name tree ctx.credential name.name) outcome file_attributes next s
+  is_answer (call.Access object bits) (reply.Access outcome file_attributes) next s =
+      is_query_reply tree object.bytes reply.Access (granted ctx.credential bits) outcome file_attributes next s
+  is_answer (call.ReadLink link) (reply.ReadLink outcome file_attributes) next s =
+      is_query_reply tree link.bytes reply.ReadLink (λ _ node. target_of node.body) outcome file_attributes next s
+  is_answer (call.Read file offset count) (reply.Read outcome file_attributes) next s =
+      is_query_reply tree file.bytes reply.Read (read ctx.credential offset count) outcome file_attributes next s
+  is_answer (call.ReadDir directory cookie verifier count) (reply.ReadDir outcome file_attributes) next s =
+      is_query_reply tree directory.bytes reply.ReadDir
+      (list ctx.credential cookie verifier count) outcome file_attributes next s
   is_answer (call.ReadDirPlus directory cookie verifier names_count count)
-      (reply.ReadDirPlus outcome told) next s =
-      is_told tree directory.bytes reply.ReadDirPlus
-      (list_plus tree ctx.credential cookie verifier names_count count) outcome told next s
-  is_answer (call.FsStat object) (reply.FsStat outcome told) next s =
-      is_told tree object.bytes reply.FsStat (λ _ _. Ok (space_of tree)) outcome told next s
-  is_answer (call.FsInfo object) (reply.FsInfo outcome told) next s =
-      is_told tree object.bytes reply.FsInfo (λ _ _. Ok file_system_info) outcome told next s
-  is_answer (call.PathConf object) (reply.PathConf outcome told) next s =
-      is_told tree object.bytes reply.PathConf (λ _ _. Ok path_limits) outcome told next s
-  is_answer (call.Write file offset count stability text) (reply.Write outcome told) next s =
-      is_acted tree file.bytes reply.Write (write tree ctx offset count stability text) outcome told next s
-  is_answer (call.Create name how) (reply.Create outcome told) next s =
-      is_acted tree name.directory.bytes reply.Create (create tree ctx name.name how new) outcome told next s
-  is_answer (call.MkDir name wanted) (reply.MkDir outcome told) next s =
+      (reply.ReadDirPlus outcome file_attributes) next s =
+      is_query_reply tree directory.bytes reply.ReadDirPlus
+      (list_plus tree ctx.credential cookie verifier names_count count) outcome file_attributes next s
+  is_answer (call.FsStat object) (reply.FsStat outcome file_attributes) next s =
+      is_query_reply tree object.bytes reply.FsStat (λ _ _. Ok (space_of tree)) outcome file_attributes next s
+  is_answer (call.FsInfo object) (reply.FsInfo outcome file_attributes) next s =
+      is_query_reply tree object.bytes reply.FsInfo (λ _ _. Ok file_system_info) outcome file_attributes next s
+  is_answer (call.PathConf object) (reply.PathConf outcome file_attributes) next s =
+      is_query_reply tree object.bytes reply.PathConf (λ _ _. Ok path_limits) outcome file_attributes next s
+  is_answer (call.Write file offset count stability text) (reply.Write outcome file_attributes) next s =
+      is_acted tree file.bytes reply.Write (write tree ctx offset count stability text) outcome file_attributes next s
+  is_answer (call.Create name how) (reply.Create outcome file_attributes) next s =
+      is_acted tree name.directory.bytes reply.Create (create tree ctx name.name how new) outcome file_attributes next s
+  is_answer (call.MkDir name wanted) (reply.MkDir outcome file_attributes) next s =
       is_acted tree name.directory.bytes reply.MkDir
-      (make_directory tree ctx name.name wanted new) outcome told next s
-  is_answer (call.SymLink name wanted target) (reply.SymLink outcome told) next s =
+      (make_directory tree ctx name.name wanted new) outcome file_attributes next s
+  is_answer (call.SymLink name wanted target) (reply.SymLink outcome file_attributes) next s =
       is_acted tree name.directory.bytes reply.SymLink
-      (make_link tree ctx name.name wanted target new) outcome told next s
-  is_answer (call.MkNod name special) (reply.MkNod outcome told) next s =
-      is_acted tree name.directory.bytes reply.MkNod (λ _ _. Err status.NotSupp) outcome told next s
-  is_answer (call.Remove name) (reply.Remove outcome told) next s =
-      is_acted tree name.directory.bytes reply.Remove (remove tree ctx name.name) outcome told next s
-  is_answer (call.RmDir name) (reply.RmDir outcome told) next s =
-      is_acted tree name.directory.bytes reply.RmDir (remove_directory tree ctx name.name) outcome told next s
-  is_answer (call.Commit file offset count) (reply.Commit outcome told) next s =
-      is_acted tree file.bytes reply.Commit (commit tree ctx) outcome told next s
-  is_answer (call.Rename source target) (reply.Rename outcome told told_too) next s =
+      (make_link tree ctx name.name wanted target new) outcome file_attributes next s
+  is_answer (call.MkNod name special) (reply.MkNod outcome file_attributes) next s =
+      is_acted tree name.directory.bytes reply.MkNod (λ _ _. Err status.NotSupp) outcome file_attributes next s
+  is_answer (call.Remove name) (reply.Remove outcome file_attributes) next s =
+      is_acted tree name.directory.bytes reply.Remove (remove tree ctx name.name) outcome file_attributes next s
+  is_answer (call.RmDir name) (reply.RmDir outcome file_attributes) next s =
+      is_acted tree name.directory.bytes reply.RmDir (remove_directory tree ctx name.name) outcome file_attributes next s
+  is_answer (call.Commit file offset count) (reply.Commit outcome file_attributes) next s =
+      is_acted tree file.bytes reply.Commit (commit tree ctx) outcome file_attributes next s
+  is_answer (call.Rename source target) (reply.Rename outcome file_attributes other_attributes) next s =
       let found = find_file tree source.directory.bytes in
       let other = after_first found (find_file tree target.directory.bytes) in
-      let parts = s.parts ∙ ap (λ n. change_told n found) s.leads in
-      let new_parts = s.new_parts ∙ ap (λ n. change_told n other) s.leads in
+      let parts = s.parts ∙ ap (λ n. change_between n found) s.leads in
+      let new_parts = s.new_parts ∙ ap (λ n. change_between n other) s.leads in
       λ i. (reply.Rename (s.answered i) (parts i) (new_parts i), s.leads i)
-  is_answer (call.Link file name) (reply.Link outcome told told_too) next s =
+  is_answer (call.Link file name) (reply.Link outcome file_attributes other_attributes) next s =
       let found = find_file tree file.bytes in
       let other = after_first found (find_file tree name.directory.bytes) in
-      let parts = s.parts ∙ ap (λ n. told_in n found) s.leads in
-      let directory_parts = s.directory_parts ∙ ap (λ n. change_told n other) s.leads in
+      let parts = s.parts ∙ ap (λ n. attributes_in n found) s.leads in
+      let directory_parts = s.directory_parts ∙ ap (λ n. change_between n other) s.leads in
       λ i. (reply.Link (s.answered i) (parts i) (directory_parts i), s.leads i)
   is_answer _ _ next s = absurd s
 

@@ -1,4 +1,4 @@
--- Each step of each procedure is a deed: what the procedure's tests show, and what it does then.
+-- Each step of each procedure is one of these: what the procedure's tests show, and what it does then.
 use Rattle.std.proofs.Common.{◌≡◌, ℕ, ◌<◌, ◌≤◌, sym, ap, subst, ◌∙◌, refl, Bool, true, false, cond, not}
 use Rattle.std.proofs.Common.{List, []}
 use Rattle.std.proofs.Common.{◌∷◌, ◌++◌, ◌||◌, length, nat_eq, nat_lt, is_some, is_none, Option, Some, None}
@@ -32,37 +32,37 @@ use Rattle.nfs_spec.proofs.ModelLemmas.Answered.{found-stands}
 use Rattle.nfs_spec.proofs.ModelLemmas.Maps.{entries-empty}
 use Rattle.nfs_spec.specs.Model.Find.{find_file}
 use Rattle.nfs_spec.specs.Model.Names.{entries_of, is_directory, parent_of}
-use Rattle.nfs_spec.specs.Model.Node.{Node, Body, DirectoryEntry, Directory, Link}
+use Rattle.nfs_spec.specs.Model.Node.{Node, Body, DirentValue, Directory, Link}
 use Rattle.nfs_spec.specs.Model.SetAttr.{SetFound, SetOrLeft, first_of_tests, given, is_regular, refusal}
 use Rattle.nfs_spec.specs.Model.SetAttr.{with_attributes}
 use Rattle.nfs_spec.specs.Model.Sound.{SoundBody, SoundBytes, SoundEntries, SoundTarget, SoundVerifier}
 use Rattle.nfs_spec.specs.Model.Tree.{Tree, node_at, with_node}
 use Rattle.nfs_spec.proofs.ProceduresLemmas.Tests.{neither, passes}
-use Rattle.nfs_spec.proofs.ProceduresLemmas.Unchanged.{telling_leaves}
-use Rattle.nfs_spec.specs.Procedures.Changes.{if_entry, if_room, lacks_room, without_name}
+use Rattle.nfs_spec.proofs.ProceduresLemmas.Unchanged.{query_leaves}
+use Rattle.nfs_spec.specs.Procedures.Changes.{if_dirent, if_space, lacks_space, without_name}
 use Rattle.nfs_spec.specs.Procedures.Create.{becomes, create, create_at, create_new, create_over, is_made_with}
 use Rattle.nfs_spec.specs.Procedures.Create.{no_bytes}
 use Rattle.nfs_spec.specs.Procedures.Create.{only_size, resize}
 use Rattle.nfs_spec.specs.Procedures.FirstTests.{found_then, is_long, is_no_directory, is_no_name, may_change}
-use Rattle.nfs_spec.specs.Procedures.FirstTests.{place_tests}
+use Rattle.nfs_spec.specs.Procedures.FirstTests.{dentry_tests}
 use Rattle.nfs_spec.specs.Procedures.FirstTests.{unless}
-use Rattle.nfs_spec.specs.Procedures.Fresh.{IsNewNumber, IsUnused, fresh, make, made, new_entry, nothing_given}
+use Rattle.nfs_spec.specs.Procedures.Fresh.{IsNewNumber, IsUnused, fresh, make, made, new_dirent, nothing_given}
 use Rattle.nfs_spec.specs.Procedures.Fresh.{with_new, without_size}
 use Rattle.nfs_spec.specs.Procedures.Link.{link, link_refusal, linking, with_link}
 use Rattle.nfs_spec.specs.Procedures.MkDir.{is_full, is_there, make_directory, mkdir_tests}
 use Rattle.nfs_spec.specs.Procedures.Places.{is_found_directory, is_found_other, is_own_name}
 use Rattle.nfs_spec.specs.Procedures.Places.{least_free_slot, named_file}
 use Rattle.nfs_spec.specs.Procedures.Remove.{remove, remove_refusal}
-use Rattle.nfs_spec.specs.Procedures.Rename.{Place, file_in, move, move_refusal, new_slot, places_refusal, rename}
+use Rattle.nfs_spec.specs.Procedures.Rename.{Dentry, file_in, move, move_refusal, new_slot, places_refusal, rename}
 use Rattle.nfs_spec.specs.Procedures.Rename.{rename_file, renaming, with_moved}
 use Rattle.nfs_spec.specs.Procedures.RmDir.{is_found_filled, remove_directory, rmdir_refusal}
 use Rattle.nfs_spec.specs.Procedures.SymLink.{make_link, symlink_tests}
-use Rattle.nfs_spec.specs.Procedures.Told.{Acts, Effect, tree_after}
+use Rattle.nfs_spec.specs.Procedures.StepForms.{Acts, Effect, tree_after}
 use Rattle.nfs_spec.specs.Procedures.Step.{numbered_step}
 use Rattle.nfs_spec.specs.Procedures.Write.{write, write_refusal, written, written_reply}
-use Rattle.nfs_spec.proofs.ProceduresLemmas.Deeds.{Deed, Placed, leaves, links, makes, named_is, passed, removes, renames}
-use Rattle.nfs_spec.proofs.ProceduresLemmas.Deeds.{sets}
-use Rattle.nfs_spec.proofs.ProceduresLemmas.Deeds.{writes}
+use Rattle.nfs_spec.proofs.ProceduresLemmas.TreeChanges.{TreeChange, Placed, leaves, links, makes, named_is, passed, removes, renames}
+use Rattle.nfs_spec.proofs.ProceduresLemmas.TreeChanges.{sets}
+use Rattle.nfs_spec.proofs.ProceduresLemmas.TreeChanges.{writes}
 
 -- where a call isn't refused, what is so of the tree that it leads to
 module _ (P : Tree → Type 0) {A : Type 0} where
@@ -90,15 +90,15 @@ module _ (P : Tree → Type 0) {A : Type 0} where
   leads_cond true s effect then = tt
   leads_cond false s effect then = then refl
 
-  leads_room : (tree : Tree) (effect : Effect A) → (lacks_room tree effect.next ≡ false → P effect.next)
-      → Leads (if_room tree effect)
-  leads_room tree effect then = leads_cond (lacks_room tree effect.next) status.NoSpc effect then
+  leads_space : (tree : Tree) (effect : Effect A) → (lacks_space tree effect.next ≡ false → P effect.next)
+      → Leads (if_space tree effect)
+  leads_space tree effect then = leads_cond (lacks_space tree effect.next) status.NoSpc effect then
 
-  leads_entry : (tree : Tree) (entry : Option DirectoryEntry) (effect : DirectoryEntry → Effect A)
-      → ((e : DirectoryEntry) → entry ≡ Some e → lacks_room tree (effect e).next ≡ false → P (effect e).next)
-      → Leads (if_entry tree entry effect)
-  leads_entry tree None effect then = tt
-  leads_entry tree (Some entry) effect then = leads_room tree (effect entry) (then entry refl)
+  leads_dirent : (tree : Tree) (dirent : Option DirentValue) (effect : DirentValue → Effect A)
+      → ((e : DirentValue) → dirent ≡ Some e → lacks_space tree (effect e).next ≡ false → P (effect e).next)
+      → Leads (if_dirent tree dirent effect)
+  leads_dirent tree None effect then = tt
+  leads_dirent tree (Some dirent) effect then = leads_space tree (effect dirent) (then dirent refl)
 
   leads_found : (tree : Tree) (handle : List ℕ) (act : ℕ → Node → Result (Effect A) Status)
       (found : Result (ℕ × Node) Status) → find_file tree handle ≡ found
@@ -112,9 +112,9 @@ module _ (P : Tree → Type 0) {A : Type 0} where
   leads_to tree (Err status) kept leads = kept
 
   leads_acts : (tree next : Tree) (handle : List ℕ) (act : ℕ → Node → Result (Effect A) Status)
-      (outcome : Result A Status) (told : WeakCacheData) → Acts tree handle act outcome told next → P tree
+      (outcome : Result A Status) (file_attributes : WeakCacheData) → Acts tree handle act outcome file_attributes next → P tree
       → ((number : ℕ) (node : Node) → node_at tree number ≡ Some node → Leads (act number node)) → P next
-  leads_acts tree next handle act outcome told s kept each =
+  leads_acts tree next handle act outcome file_attributes s kept each =
       subst P (sym s.leads)
       (leads_to tree (found_then (find_file tree handle) act) kept
       (leads_found tree handle act (find_file tree handle) refl each))
@@ -126,7 +126,7 @@ no_some (Some x) e = cc
 -- what the tests of a name in a directory show, and those behind them
 placed_by : (allowed : Bool) (directory : Node) (name : List ℕ) (own : Bool) (s : Status)
     (tests : List (Bool × Status)) → (own ≡ false → is_own_name name ≡ false)
-    → first_of_tests (place_tests allowed directory name ++ (own, s) ∷ tests) ≡ None
+    → first_of_tests (dentry_tests allowed directory name ++ (own, s) ∷ tests) ≡ None
     → Placed directory name × (own ≡ false) × (first_of_tests tests ≡ None)
 placed_by allowed directory name own s tests own_is e =
     let kind = passed (is_no_directory directory) _ _ e in
@@ -152,16 +152,16 @@ no_bytes_sound = record {
   zeros = λ offset free. refl;
 }
 
-no_entry : (name : List ℕ) (entry : DirectoryEntry)
-    → map.get (map.empty {X = DirectoryEntry} {R = slice_cmp nat_cmp}) name ≡ Some entry → ⊥
-no_entry name entry is = let none = sym (map.get-empty (slice_cmp nat_cmp) name) ∙ is in cc
+no_dirent : (name : List ℕ) (dirent : DirentValue)
+    → map.get (map.empty {X = DirentValue} {R = slice_cmp nat_cmp}) name ≡ Some dirent → ⊥
+no_dirent name dirent is = let none = sym (map.get-empty (slice_cmp nat_cmp) name) ∙ is in cc
 
 empty_entries_sound : SoundEntries map.empty 0
 empty_entries_sound = record {
   blocks = omega arith;
-  names = λ name entry is. absurd (no_entry name entry is);
-  slots = λ name entry is. absurd (no_entry name entry is);
-  distinct = λ one other a b is too same. absurd (no_entry one a is);
+  names = λ name dirent is. absurd (no_dirent name dirent is);
+  slots = λ name dirent is. absurd (no_dirent name dirent is);
+  distinct = λ one other a b is too same. absurd (no_dirent one a is);
 }
 
 target_sound : (target : List ℕ) → AreBytes target → nat_eq (length target) 0 ≡ false
@@ -184,7 +184,7 @@ unsized wanted fits = record {
 
 module _ (tree : Tree) (ctx : Ctx) (fits : Type 0) where
   abbrev Done : Tree → Type 0
-  Done = Deed tree ctx fits
+  Done = TreeChange tree ctx fits
 
   write_done : (offset count : ℕ) (stability : Stability) (text : List ℕ) (number : ℕ) (node : Node)
       → (fits → AreBytes text) → node_at tree number ≡ Some node
@@ -194,8 +194,8 @@ module _ (tree : Tree) (ctx : Ctx) (fits : Type 0) where
         answer = written_reply ctx count stability;
         next = with_node tree number (written ctx.moment offset text node);
       } in
-      leads_unless Done (write_refusal ctx.credential offset count text node) (if_room tree effect) (λ tested.
-      leads_room Done tree effect (λ room. writes (record {
+      leads_unless Done (write_refusal ctx.credential offset count text node) (if_space tree effect) (λ tested.
+      leads_space Done tree effect (λ has_space. writes (record {
         number = number;
         node = node;
         offset = offset;
@@ -204,7 +204,7 @@ module _ (tree : Tree) (ctx : Ctx) (fits : Type 0) where
         stands = is;
         tested = tested;
         leads = refl;
-        room = room;
+        has_space = has_space;
         bounds = bounds;
       })))
 
@@ -223,16 +223,16 @@ module _ (tree : Tree) (ctx : Ctx) (fits : Type 0) where
     verifier_bounds : fits → SoundVerifier body verifier
     body_bounds : fits → SoundBody body
 
-  record Entry (number slot : Option ℕ) (entry : DirectoryEntry) : Type 0 where
-    number_is : number ≡ Some entry.number
-    slot_is : slot ≡ Some entry.slot
+  record Entry (number slot : Option ℕ) (dirent : DirentValue) : Type 0 where
+    number_is : number ≡ Some dirent.number
+    slot_is : slot ≡ Some dirent.slot
 
-  entry_is : (number slot : Option ℕ) (entry : DirectoryEntry) → new_entry number slot ≡ Some entry
-      → Entry number slot entry
-  entry_is None slot entry e = cc
-  entry_is (Some number) None entry e = cc
-  entry_is (Some number) (Some slot) entry e =
-      let one : ◌≡◌ {A = DirectoryEntry} (record { number = number; slot = slot }) entry = cc in
+  dirent_is : (number slot : Option ℕ) (dirent : DirentValue) → new_dirent number slot ≡ Some dirent
+      → Entry number slot dirent
+  dirent_is None slot dirent e = cc
+  dirent_is (Some number) None dirent e = cc
+  dirent_is (Some number) (Some slot) dirent e =
+      let one : ◌≡◌ {A = DirentValue} (record { number = number; slot = slot }) dirent = cc in
       record { number_is = ap (λ d. Some d.number) one; slot_is = ap (λ d. Some d.slot) one }
 
   unused_is : (new : Option ℕ) (number : ℕ) → IsNewNumber tree new → new ≡ Some number → IsUnused tree number
@@ -245,11 +245,11 @@ module _ (tree : Tree) (ctx : Ctx) (fits : Type 0) where
       → Leads Done (make tree ctx new at directory name wanted (fresh ctx mode verifier body))
   make_done new at directory name wanted mode verifier body is_new file =
       let node : Node = made ctx wanted (fresh ctx mode verifier body) in
-      let entry = new_entry new (least_free_slot directory.body) in
+      let dirent = new_dirent new (least_free_slot directory.body) in
       let effect = with_new tree ctx at name node in
-      leads_unless Done (refusal ctx wanted None (fresh ctx mode verifier body)) (if_entry tree entry effect)
-      (λ tested. leads_entry Done tree entry effect (λ e is room.
-      let parts = entry_is new (least_free_slot directory.body) e is in
+      leads_unless Done (refusal ctx wanted None (fresh ctx mode verifier body)) (if_dirent tree dirent effect)
+      (λ tested. leads_dirent Done tree dirent effect (λ e is has_space.
+      let parts = dirent_is new (least_free_slot directory.body) e is in
       makes (record {
         at = at;
         directory = directory;
@@ -258,7 +258,7 @@ module _ (tree : Tree) (ctx : Ctx) (fits : Type 0) where
         mode = mode;
         verifier = verifier;
         body = body;
-        entry = e;
+        dirent = e;
         stands = file.stands;
         placed = file.placed;
         absent = file.absent;
@@ -266,7 +266,7 @@ module _ (tree : Tree) (ctx : Ctx) (fits : Type 0) where
         slot = parts.slot_is;
         tested = tested;
         leads = refl;
-        room = room;
+        has_space = has_space;
         mode_bits = file.mode_bits;
         empty = file.empty;
         parent = file.parent;
@@ -361,7 +361,7 @@ module _ (tree : Tree) (ctx : Ctx) (fits : Type 0) where
         → Leads Done (create tree ctx name how new at directory)
     create_done how bounds =
         leads_unless Done
-        (first_of_tests (place_tests (may_change ctx.credential directory) directory name
+        (first_of_tests (dentry_tests (may_change ctx.credential directory) directory name
         ++ (is_own_name name, status.Exist) ∷ []))
         (create_at tree ctx how new at directory name (named_file tree directory name)) (λ tested.
         let placed = placed_by (may_change ctx.credential directory) directory name (is_own_name name)
@@ -372,7 +372,7 @@ module _ (tree : Tree) (ctx : Ctx) (fits : Type 0) where
         → Leads Done (make_directory tree ctx name wanted new at directory)
     directory_done wanted bounds =
         leads_unless Done
-        (first_of_tests (place_tests (may_change ctx.credential directory) directory name
+        (first_of_tests (dentry_tests (may_change ctx.credential directory) directory name
         ++ mkdir_tests name directory (named_file tree directory name)))
         (make tree ctx new at directory name (without_size wanted)
         (fresh ctx NEW_DIRECTORY_MODE None (Directory map.empty 0 at))) (λ tested.
@@ -398,7 +398,7 @@ module _ (tree : Tree) (ctx : Ctx) (fits : Type 0) where
         → (fits → AreBytes target) → Leads Done (make_link tree ctx name wanted target new at directory)
     link_done wanted target bounds bytes =
         leads_unless Done
-        (first_of_tests (place_tests (may_change ctx.credential directory) directory name
+        (first_of_tests (dentry_tests (may_change ctx.credential directory) directory name
         ++ symlink_tests name target (named_file tree directory name)))
         (make tree ctx new at directory name (without_size wanted) (fresh ctx NEW_LINK_MODE None (Link target)))
         (λ tested.
@@ -471,10 +471,10 @@ module _ (tree : Tree) (ctx : Ctx) (fits : Type 0) where
       → (fits → AreBytes name) → node_at tree number ≡ Some node → node_at tree at ≡ Some directory
       → Leads Done (link tree ctx name number node at directory)
   linked_done name number node at directory bounds file_stands stands =
-      let entry = new_entry (Some number) (least_free_slot directory.body) in
+      let dirent = new_dirent (Some number) (least_free_slot directory.body) in
       leads_unless Done (link_refusal tree ctx.credential name node directory)
-      (if_entry tree entry (with_link tree ctx.moment name number node at)) (λ tested.
-      leads_entry Done tree entry (with_link tree ctx.moment name number node at) (λ e is room.
+      (if_dirent tree dirent (with_link tree ctx.moment name number node at)) (λ tested.
+      leads_dirent Done tree dirent (with_link tree ctx.moment name number node at) (λ e is has_space.
       let kind = passed (is_no_directory directory) _ _ tested in
       let lawful = passed (is_no_name name) _ _ kind.1 in
       let short = passed (is_long name) _ _ lawful.1 in
@@ -482,14 +482,14 @@ module _ (tree : Tree) (ctx : Ctx) (fits : Type 0) where
       let file = passed (is_directory node.body) _ _ may.1 in
       let there = passed (is_there name (named_file tree directory name)) _ _ file.1 in
       let full = passed (is_full node) _ _ there.1 in
-      let parts = entry_is (Some number) (least_free_slot directory.body) e is in
+      let parts = dirent_is (Some number) (least_free_slot directory.body) e is in
       links (record {
         number = number;
         node = node;
         at = at;
         directory = directory;
         name = name;
-        entry = e;
+        dirent = e;
         file_stands = file_stands;
         stands = stands;
         placed = record {
@@ -504,11 +504,11 @@ module _ (tree : Tree) (ctx : Ctx) (fits : Type 0) where
         number_is = let one = parts.number_is in cc;
         slot = parts.slot_is;
         leads = refl;
-        room = room;
+        has_space = has_space;
         name_bounds = bounds;
       })))
 
-  module _ (source target : Place) (source_stands : node_at tree source.number ≡ Some source.directory)
+  module _ (source target : Dentry) (source_stands : node_at tree source.number ≡ Some source.directory)
       (target_stands : node_at tree target.number ≡ Some target.directory)
       (bounds : fits → AreBytes target.name) where
     move_done : (found : Option (ℕ × Node)) → Placed target.directory target.name
@@ -517,18 +517,18 @@ module _ (tree : Tree) (ctx : Ctx) (fits : Type 0) where
     move_done None placed is = tt
     move_done (Some file) placed is =
         let replaced = file_in tree target in
-        let entry = new_entry (Some file.0) (new_slot source target) in
+        let dirent = new_dirent (Some file.0) (new_slot source target) in
         let effect = with_moved tree ctx.moment file.0 file.1 source target replaced in
         leads_same Done (given replaced (λ other. nat_eq other.0 file.0)) (record { answer = tt; next = tree })
         (move tree ctx file.0 file.1 source target replaced) (leaves refl) (λ apart.
-        leads_unless Done (move_refusal tree file.0 file.1 source target replaced) (if_entry tree entry effect)
-        (λ tested. leads_entry Done tree entry effect (λ e e_is room.
-        let parts = entry_is (Some file.0) (new_slot source target) e e_is in
+        leads_unless Done (move_refusal tree file.0 file.1 source target replaced) (if_dirent tree dirent effect)
+        (λ tested. leads_dirent Done tree dirent effect (λ e e_is has_space.
+        let parts = dirent_is (Some file.0) (new_slot source target) e e_is in
         renames (record {
           source = source;
           target = target;
           file = file;
-          entry = e;
+          dirent = e;
           source_stands = source_stands;
           target_stands = target_stands;
           placed = placed;
@@ -538,7 +538,7 @@ module _ (tree : Tree) (ctx : Ctx) (fits : Type 0) where
           number_is = let one = parts.number_is in cc;
           slot = parts.slot_is;
           leads = refl;
-          room = room;
+          has_space = has_space;
           name_bounds = bounds;
         }))))
 
@@ -563,11 +563,11 @@ module _ (tree : Tree) (ctx : Ctx) (fits : Type 0) where
         }) refl)
 
 module _ (tree next : Tree) (ctx : Ctx) (fits : Type 0) (wanted : NewAttributes) (guard : Option Moment)
-    (bounds : fits → NewAttributesFit wanted) (outcome : Result (Unit {0}) Status) (told : WeakCacheData) where
+    (bounds : fits → NewAttributesFit wanted) (outcome : Result (Unit {0}) Status) (file_attributes : WeakCacheData) where
   set_tested : (number : ℕ) (node : Node) (test : Option Status) → node_at tree number ≡ Some node
       → refusal ctx wanted guard node ≡ test
-      → SetOrLeft tree number node (with_attributes ctx.moment wanted node) test outcome told next
-      → Deed tree ctx fits next
+      → SetOrLeft tree number node (with_attributes ctx.moment wanted node) test outcome file_attributes next
+      → TreeChange tree ctx fits next
   set_tested number node None is tested s = sets (record {
     number = number;
     node = node;
@@ -581,89 +581,89 @@ module _ (tree next : Tree) (ctx : Ctx) (fits : Type 0) (wanted : NewAttributes)
   set_tested number node (Some status) is tested s = leaves s.unchanged
 
   set_done : (handle : List ℕ) (found : Result (ℕ × Node) Status) → find_file tree handle ≡ found
-      → SetFound tree ctx wanted guard found outcome told next → Deed tree ctx fits next
+      → SetFound tree ctx wanted guard found outcome file_attributes next → TreeChange tree ctx fits next
   set_done handle (Ok found) is s =
       set_tested found.0 found.1 (refusal ctx wanted guard found.1) (found-stands tree handle found is) refl s
   set_done handle (Err status) is s = leaves s.unchanged
 
 -- What a step does, whatever the call.
 pub what_is_done : (tree next : Tree) (ctx : Ctx) (new : Option ℕ) (asked : Call) (given : Reply)
-    → IsNewNumber tree new → numbered_step tree ctx new asked given next → Deed tree ctx (CallFits asked) next
+    → IsNewNumber tree new → numbered_step tree ctx new asked given next → TreeChange tree ctx (CallFits asked) next
 what_is_done tree next ctx new (call.GetAttr object) (reply.GetAttr outcome) is_new s = leaves s.unchanged
-what_is_done tree next ctx new (call.SetAttr object wanted guard) (reply.SetAttr outcome told) is_new s =
-    set_done tree next ctx (CallFits (call.SetAttr object wanted guard)) wanted guard (λ f. f.1) outcome told
+what_is_done tree next ctx new (call.SetAttr object wanted guard) (reply.SetAttr outcome file_attributes) is_new s =
+    set_done tree next ctx (CallFits (call.SetAttr object wanted guard)) wanted guard (λ f. f.1) outcome file_attributes
     object.bytes (find_file tree object.bytes) refl s
-what_is_done tree next ctx new (call.Lookup name) (reply.Lookup outcome told) is_new s = leaves s.unchanged
-what_is_done tree next ctx new (call.Access object bits) (reply.Access outcome told) is_new s =
+what_is_done tree next ctx new (call.Lookup name) (reply.Lookup outcome file_attributes) is_new s = leaves s.unchanged
+what_is_done tree next ctx new (call.Access object bits) (reply.Access outcome file_attributes) is_new s =
     leaves s.unchanged
-what_is_done tree next ctx new (call.ReadLink link) (reply.ReadLink outcome told) is_new s = leaves s.unchanged
-what_is_done tree next ctx new (call.Read file offset count) (reply.Read outcome told) is_new s =
+what_is_done tree next ctx new (call.ReadLink link) (reply.ReadLink outcome file_attributes) is_new s = leaves s.unchanged
+what_is_done tree next ctx new (call.Read file offset count) (reply.Read outcome file_attributes) is_new s =
     leaves s.unchanged
 what_is_done tree next ctx new (call.ReadDir directory cookie verifier count)
-    (reply.ReadDir outcome told) is_new s =
+    (reply.ReadDir outcome file_attributes) is_new s =
     leaves s.unchanged
 what_is_done tree next ctx new (call.ReadDirPlus directory cookie verifier names_count count)
-    (reply.ReadDirPlus outcome told) is_new s =
+    (reply.ReadDirPlus outcome file_attributes) is_new s =
     leaves s.unchanged
-what_is_done tree next ctx new (call.FsStat object) (reply.FsStat outcome told) is_new s = leaves s.unchanged
-what_is_done tree next ctx new (call.FsInfo object) (reply.FsInfo outcome told) is_new s = leaves s.unchanged
-what_is_done tree next ctx new (call.PathConf object) (reply.PathConf outcome told) is_new s =
+what_is_done tree next ctx new (call.FsStat object) (reply.FsStat outcome file_attributes) is_new s = leaves s.unchanged
+what_is_done tree next ctx new (call.FsInfo object) (reply.FsInfo outcome file_attributes) is_new s = leaves s.unchanged
+what_is_done tree next ctx new (call.PathConf object) (reply.PathConf outcome file_attributes) is_new s =
     leaves s.unchanged
-what_is_done tree next ctx new (call.MkNod name special) (reply.MkNod outcome told) is_new s =
-    leaves (telling_leaves tree next ctx new (call.MkNod name special) (reply.MkNod outcome told) s refl)
-what_is_done tree next ctx new (call.Commit file offset count) (reply.Commit outcome told) is_new s =
-    leaves (telling_leaves tree next ctx new (call.Commit file offset count) (reply.Commit outcome told) s refl)
+what_is_done tree next ctx new (call.MkNod name special) (reply.MkNod outcome file_attributes) is_new s =
+    leaves (query_leaves tree next ctx new (call.MkNod name special) (reply.MkNod outcome file_attributes) s refl)
+what_is_done tree next ctx new (call.Commit file offset count) (reply.Commit outcome file_attributes) is_new s =
+    leaves (query_leaves tree next ctx new (call.Commit file offset count) (reply.Commit outcome file_attributes) s refl)
 what_is_done tree next ctx new (call.Write file offset count stability text)
-    (reply.Write outcome told) is_new s =
+    (reply.Write outcome file_attributes) is_new s =
     let fits = CallFits (call.Write file offset count stability text) in
-    leads_acts (Deed tree ctx fits) tree next _ _ outcome told s (leaves refl)
+    leads_acts (TreeChange tree ctx fits) tree next _ _ outcome file_attributes s (leaves refl)
     (λ number node is. write_done tree ctx fits offset count stability text number node (λ f. f.3.each) is)
-what_is_done tree next ctx new (call.Create name how) (reply.Create outcome told) is_new s =
+what_is_done tree next ctx new (call.Create name how) (reply.Create outcome file_attributes) is_new s =
     let fits = CallFits (call.Create name how) in
-    leads_acts (Deed tree ctx fits) tree next _ _ outcome told s (leaves refl)
+    leads_acts (TreeChange tree ctx fits) tree next _ _ outcome file_attributes s (leaves refl)
     (λ at directory is. create_done tree ctx fits new is_new at directory name.name is (λ f. f.0.name.each) how
     (λ f. f.1))
-what_is_done tree next ctx new (call.MkDir name wanted) (reply.MkDir outcome told) is_new s =
+what_is_done tree next ctx new (call.MkDir name wanted) (reply.MkDir outcome file_attributes) is_new s =
     let fits = CallFits (call.MkDir name wanted) in
-    leads_acts (Deed tree ctx fits) tree next _ _ outcome told s (leaves refl)
+    leads_acts (TreeChange tree ctx fits) tree next _ _ outcome file_attributes s (leaves refl)
     (λ at directory is. directory_done tree ctx fits new is_new at directory name.name is (λ f. f.0.name.each)
     wanted (λ f. f.1))
-what_is_done tree next ctx new (call.SymLink name wanted target) (reply.SymLink outcome told) is_new s =
+what_is_done tree next ctx new (call.SymLink name wanted target) (reply.SymLink outcome file_attributes) is_new s =
     let fits = CallFits (call.SymLink name wanted target) in
-    leads_acts (Deed tree ctx fits) tree next _ _ outcome told s (leaves refl)
+    leads_acts (TreeChange tree ctx fits) tree next _ _ outcome file_attributes s (leaves refl)
     (λ at directory is. link_done tree ctx fits new is_new at directory name.name is (λ f. f.0.name.each)
     wanted target (λ f. f.1) (λ f. f.2.each))
-what_is_done tree next ctx new (call.Remove name) (reply.Remove outcome told) is_new s =
-    leads_acts (Deed tree ctx (CallFits (call.Remove name))) tree next _ _ outcome told s (leaves refl)
+what_is_done tree next ctx new (call.Remove name) (reply.Remove outcome file_attributes) is_new s =
+    leads_acts (TreeChange tree ctx (CallFits (call.Remove name))) tree next _ _ outcome file_attributes s (leaves refl)
     (λ at directory is. remove_done tree ctx (CallFits (call.Remove name)) at directory name.name is)
-what_is_done tree next ctx new (call.RmDir name) (reply.RmDir outcome told) is_new s =
-    leads_acts (Deed tree ctx (CallFits (call.RmDir name))) tree next _ _ outcome told s (leaves refl)
+what_is_done tree next ctx new (call.RmDir name) (reply.RmDir outcome file_attributes) is_new s =
+    leads_acts (TreeChange tree ctx (CallFits (call.RmDir name))) tree next _ _ outcome file_attributes s (leaves refl)
     (λ at directory is. rmdir_done tree ctx (CallFits (call.RmDir name)) at directory name.name is)
-what_is_done tree next ctx new (call.Rename source target) (reply.Rename outcome told told_too) is_new s =
+what_is_done tree next ctx new (call.Rename source target) (reply.Rename outcome file_attributes other_attributes) is_new s =
     let fits = CallFits (call.Rename source target) in
     let act : ℕ → Node → ℕ → Node → Result (Effect (Unit {0})) Status = λ number directory other parent.
     rename tree ctx (record { number = number; directory = directory; name = source.name })
     (record { number = other; directory = parent; name = target.name }) in
-    subst (Deed tree ctx fits) (sym s.leads)
-    (leads_to (Deed tree ctx fits) tree
+    subst (TreeChange tree ctx fits) (sym s.leads)
+    (leads_to (TreeChange tree ctx fits) tree
     (renaming tree ctx source.directory.bytes source.name target.directory.bytes target.name) (leaves refl)
-    (leads_found (Deed tree ctx fits) tree source.directory.bytes
+    (leads_found (TreeChange tree ctx fits) tree source.directory.bytes
     (λ number directory. found_then (find_file tree target.directory.bytes) (act number directory))
     (find_file tree source.directory.bytes) refl
-    (λ number directory is. leads_found (Deed tree ctx fits) tree target.directory.bytes (act number directory)
+    (λ number directory is. leads_found (TreeChange tree ctx fits) tree target.directory.bytes (act number directory)
     (find_file tree target.directory.bytes) refl
     (λ other parent too. rename_done tree ctx fits
     (record { number = number; directory = directory; name = source.name })
     (record { number = other; directory = parent; name = target.name }) is too (λ f. f.1.name.each)))))
-what_is_done tree next ctx new (call.Link file name) (reply.Link outcome told told_too) is_new s =
+what_is_done tree next ctx new (call.Link file name) (reply.Link outcome file_attributes other_attributes) is_new s =
     let fits = CallFits (call.Link file name) in
-    subst (Deed tree ctx fits) (sym s.leads)
-    (leads_to (Deed tree ctx fits) tree (linking tree ctx file.bytes name.directory.bytes name.name)
+    subst (TreeChange tree ctx fits) (sym s.leads)
+    (leads_to (TreeChange tree ctx fits) tree (linking tree ctx file.bytes name.directory.bytes name.name)
     (leaves refl)
-    (leads_found (Deed tree ctx fits) tree file.bytes (λ number node.
+    (leads_found (TreeChange tree ctx fits) tree file.bytes (λ number node.
     found_then (find_file tree name.directory.bytes) (link tree ctx name.name number node))
     (find_file tree file.bytes) refl
-    (λ number node is. leads_found (Deed tree ctx fits) tree name.directory.bytes
+    (λ number node is. leads_found (TreeChange tree ctx fits) tree name.directory.bytes
     (link tree ctx name.name number node) (find_file tree name.directory.bytes) refl
     (λ at directory too. linked_done tree ctx fits name.name number node at directory (λ f. f.1.name.each) is
     too))))

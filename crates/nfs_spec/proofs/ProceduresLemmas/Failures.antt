@@ -16,7 +16,7 @@ use Rattle.nfs_types.specs.declared.call.Call.TheVariants as call
 use Rattle.nfs_types.specs.declared.call.CreateHow.{CreateHow}
 use Rattle.nfs_types.specs.declared.call.CreateHow.TheVariants.{Unchecked, Guarded, Exclusive}
 use Rattle.nfs_types.specs.declared.ctx.Credential.{Credential}
-use Rattle.nfs_types.specs.declared.entries.ListedEntry.{ListedEntry}
+use Rattle.nfs_types.specs.declared.entries.ListedItem.{ListedItem}
 use Rattle.nfs_types.specs.declared.verifier.Verifier.{Verifier}
 use Rattle.nfs_types.specs.declared.ctx.Ctx.{Ctx}
 use Rattle.nfs_types.specs.declared.ctx.Moment.{Moment}
@@ -29,26 +29,26 @@ use Rattle.nfs_types.specs.declared.status.Status.TheVariants as status
 use Rattle.nfs_spec.specs.Model.Calls.{is_answered_stable}
 use Rattle.nfs_spec.specs.Model.Find.{find_file, is_number, number_in, same_stamp, stamp_in, stamped}
 use Rattle.nfs_spec.specs.Model.GetAttr.{attributes_found}
-use Rattle.nfs_spec.specs.Model.Node.{Node, Body, DirectoryEntry, Regular, Directory, Link}
+use Rattle.nfs_spec.specs.Model.Node.{Node, Body, DirentValue, Regular, Directory, Link}
 use Rattle.nfs_spec.specs.Model.Permissions.{may_write_file}
 use Rattle.nfs_spec.specs.Model.Refused.{refused}
 use Rattle.nfs_spec.specs.Model.SetAttr.{fails_guard, is_invalid, is_no_access, is_not_permitted}
 use Rattle.nfs_spec.specs.Model.SetAttr.{SetFound, SetOrLeft, first_of_tests, given, is_regular, refusal}
 use Rattle.nfs_spec.specs.Model.SetAttr.{with_attributes}
 use Rattle.nfs_spec.specs.Model.Tree.{Tree, node_at, with_node}
-use Rattle.nfs_spec.specs.Procedures.Changes.{if_entry, if_room, lacks_room, without_name}
+use Rattle.nfs_spec.specs.Procedures.Changes.{if_dirent, if_space, lacks_space, without_name}
 use Rattle.nfs_spec.specs.Procedures.Commit.{commit_refusal}
 use Rattle.nfs_spec.specs.Procedures.Create.{becomes, create_at, create_new, create_over, is_made_with, no_bytes}
 use Rattle.nfs_spec.specs.Procedures.Create.{only_size, resize}
 use Rattle.nfs_spec.specs.Procedures.FirstTests.{found_then, is_no_directory, may_change}
 use Rattle.nfs_spec.specs.Procedures.FirstTests.{may_list}
-use Rattle.nfs_spec.specs.Procedures.FirstTests.{may_search, place_tests, unless}
-use Rattle.nfs_spec.specs.Procedures.Fresh.{fresh, make, made, new_entry, nothing_given, with_new, without_size}
+use Rattle.nfs_spec.specs.Procedures.FirstTests.{may_search, dentry_tests, unless}
+use Rattle.nfs_spec.specs.Procedures.Fresh.{fresh, make, made, new_dirent, nothing_given, with_new, without_size}
 use Rattle.nfs_spec.specs.Procedures.Kinds.{fails_with, is_failure, tells_failure, tells_one_of}
 use Rattle.nfs_spec.specs.Procedures.Link.{link, link_refusal, link_tests, linking, with_link}
-use Rattle.nfs_spec.specs.Procedures.Lookup.{found_under, looked}
+use Rattle.nfs_spec.specs.Procedures.Lookup.{found_under, lookup_result}
 use Rattle.nfs_spec.specs.Procedures.MkDir.{mkdir_tests}
-use Rattle.nfs_spec.specs.Procedures.Listing.{entry_bytes, entry_room, fitting, is_bad_cookie, is_end, is_too_small}
+use Rattle.nfs_spec.specs.Procedures.Listing.{listed_bytes, listing_budget, fitting, is_bad_cookie, is_end, is_too_small}
 use Rattle.nfs_spec.specs.Procedures.Listing.{listed_behind, listing_verifier}
 use Rattle.nfs_spec.specs.Procedures.Places.{is_own_name, least_free_slot}
 use Rattle.nfs_spec.specs.Procedures.Places.{named_file}
@@ -60,10 +60,10 @@ use Rattle.nfs_spec.specs.Procedures.RmDir.{rmdir_refusal, rmdir_tests}
 use Rattle.nfs_spec.specs.Procedures.SymLink.{symlink_tests}
 use Rattle.nfs_spec.specs.Procedures.Write.{is_wrong_count, write_refusal, written, written_reply}
 use Rattle.nfs_spec.specs.Procedures.ReadLink.{target_of}
-use Rattle.nfs_spec.specs.Procedures.Rename.{Place, file_in, move, move_refusal, new_slot, places_refusal, rename}
+use Rattle.nfs_spec.specs.Procedures.Rename.{Dentry, file_in, move, move_refusal, new_slot, places_refusal, rename}
 use Rattle.nfs_spec.specs.Procedures.Rename.{move_tests, path_tests, rename_file, renaming, right_tests}
 use Rattle.nfs_spec.specs.Procedures.Rename.{with_moved}
-use Rattle.nfs_spec.specs.Procedures.Told.{Acts, Effect, Tells, answer_of}
+use Rattle.nfs_spec.specs.Procedures.StepForms.{Acts, Effect, Tells, answer_of}
 use Rattle.nfs_spec.specs.Procedures.Step.{numbered_step}
 
 abbrev fails : {A : Type 0} → Result A Status → Bool
@@ -116,9 +116,9 @@ set_tests ctx wanted guard node = by_tests (
     ∷ (given wanted.size (λ size. nat_lt LARGEST_FILE size), status.FBig)
     ∷ []) refl
 
-place_fine : (allowed : Bool) (directory : Node) (name : List ℕ) (more : List (Bool × Status))
-    → are_fine more ≡ true → fails_test (first_of_tests (place_tests allowed directory name ++ more)) ≡ false
-place_fine allowed directory name more e = by_tests (place_tests allowed directory name ++ more) e
+dentry_fine : (allowed : Bool) (directory : Node) (name : List ℕ) (more : List (Bool × Status))
+    → are_fine more ≡ true → fails_test (first_of_tests (dentry_tests allowed directory name ++ more)) ≡ false
+dentry_fine allowed directory name more e = by_tests (dentry_tests allowed directory name ++ more) e
 
 by_lack : {A : Type 0} (b : Bool) (effect : Effect A) → fails (cond b (Err status.NoSpc) (Ok effect)) ≡ false
 by_lack true effect = refl
@@ -150,13 +150,13 @@ module _ {A : Type 0} where
   by_answer (Ok effect) e = refl
   by_answer (Err s) e = e
 
-  by_room : (tree : Tree) (effect : Effect A) → fails (if_room tree effect) ≡ false
-  by_room tree effect = by_lack (lacks_room tree effect.next) effect
+  by_space : (tree : Tree) (effect : Effect A) → fails (if_space tree effect) ≡ false
+  by_space tree effect = by_lack (lacks_space tree effect.next) effect
 
-  by_entry : (tree : Tree) (entry : Option DirectoryEntry) (effect : DirectoryEntry → Effect A)
-      → fails (if_entry tree entry effect) ≡ false
-  by_entry tree None effect = refl
-  by_entry tree (Some entry) effect = by_room tree (effect entry)
+  by_dirent : (tree : Tree) (dirent : Option DirentValue) (effect : DirentValue → Effect A)
+      → fails (if_dirent tree dirent effect) ≡ false
+  by_dirent tree None effect = refl
+  by_dirent tree (Some dirent) effect = by_space tree (effect dirent)
 
 stamp_fine : (number : ℕ) (stamp : Stamp) (at : Option Node) → fails (stamped number stamp at) ≡ false
 stamp_fine number stamp None = refl
@@ -169,16 +169,16 @@ find_fine tree handle =
     (stamped (number_in handle) (stamp_in handle) (node_at tree (number_in handle))) (Err status.BadHandle)
     (stamp_fine (number_in handle) (stamp_in handle) (node_at tree (number_in handle))) refl
 
-told_fine : {A : Type 0} (tree next : Tree) (handle : List ℕ) (tell : ℕ → Node → Result A Status)
+query_fine : {A : Type 0} (tree next : Tree) (handle : List ℕ) (tell : ℕ → Node → Result A Status)
     (outcome : Result A Status) (object : Option Attributes) → Tells tree handle tell outcome object next
     → ((number : ℕ) (node : Node) → fails (tell number node) ≡ false) → fails outcome ≡ false
-told_fine tree next handle tell outcome object s each =
+query_fine tree next handle tell outcome object s each =
     ap fails s.answered ∙ by_found (find_file tree handle) tell (find_fine tree handle) each
 
 acted_fine : {A : Type 0} (tree next : Tree) (handle : List ℕ) (act : ℕ → Node → Result (Effect A) Status)
-    (outcome : Result A Status) (told : WeakCacheData) → Acts tree handle act outcome told next
+    (outcome : Result A Status) (file_attributes : WeakCacheData) → Acts tree handle act outcome file_attributes next
     → ((number : ℕ) (node : Node) → fails (act number node) ≡ false) → fails outcome ≡ false
-acted_fine tree next handle act outcome told s each =
+acted_fine tree next handle act outcome file_attributes s each =
     ap fails s.answered
     ∙ by_answer (found_then (find_file tree handle) act)
     (by_found (find_file tree handle) act (find_fine tree handle) each)
@@ -189,19 +189,19 @@ attributes_fine (Ok found) e = refl
 attributes_fine (Err s) e = e
 
 set_tested : (tree next : Tree) (number : ℕ) (node new : Node) (test : Option Status)
-    (outcome : Result (Unit {0}) Status) (told : WeakCacheData) → fails_test test ≡ false
-    → SetOrLeft tree number node new test outcome told next → fails outcome ≡ false
+    (outcome : Result (Unit {0}) Status) (file_attributes : WeakCacheData) → fails_test test ≡ false
+    → SetOrLeft tree number node new test outcome file_attributes next → fails outcome ≡ false
 unfolding fails_test
-set_tested tree next number node new None outcome told e s = ap fails s.done
-set_tested tree next number node new (Some status) outcome told e s = ap fails s.refused ∙ e
+set_tested tree next number node new None outcome file_attributes e s = ap fails s.done
+set_tested tree next number node new (Some status) outcome file_attributes e s = ap fails s.refused ∙ e
 
 set_fine : (tree next : Tree) (ctx : Ctx) (wanted : NewAttributes) (guard : Option Moment)
-    (found : Result (ℕ × Node) Status) (outcome : Result (Unit {0}) Status) (told : WeakCacheData)
-    → fails found ≡ false → SetFound tree ctx wanted guard found outcome told next → fails outcome ≡ false
-set_fine tree next ctx wanted guard (Ok found) outcome told e s =
+    (found : Result (ℕ × Node) Status) (outcome : Result (Unit {0}) Status) (file_attributes : WeakCacheData)
+    → fails found ≡ false → SetFound tree ctx wanted guard found outcome file_attributes next → fails outcome ≡ false
+set_fine tree next ctx wanted guard (Ok found) outcome file_attributes e s =
     set_tested tree next found.0 found.1 (with_attributes ctx.moment wanted found.1)
-    (refusal ctx wanted guard found.1) outcome told (set_tests ctx wanted guard found.1) s
-set_fine tree next ctx wanted guard (Err status) outcome told e s = ap fails s.refused ∙ e
+    (refusal ctx wanted guard found.1) outcome file_attributes (set_tests ctx wanted guard found.1) s
+set_fine tree next ctx wanted guard (Err status) outcome file_attributes e s = ap fails s.refused ∙ e
 
 target_fine : (body : Body) → fails (target_of body) ≡ false
 target_fine (Regular bytes mapped) = refl
@@ -217,9 +217,9 @@ make_fine : (tree : Tree) (ctx : Ctx) (number : Option ℕ) (at : ℕ) (director
     ≡ false
 make_fine tree ctx number at directory name wanted node =
     by_unless (refusal ctx wanted None node)
-    (if_entry tree (new_entry number (least_free_slot directory.body))
+    (if_dirent tree (new_dirent number (least_free_slot directory.body))
     (with_new tree ctx at name (made ctx wanted node))) (set_tests ctx wanted None node)
-    (by_entry tree (new_entry number (least_free_slot directory.body))
+    (by_dirent tree (new_dirent number (least_free_slot directory.body))
     (with_new tree ctx at name (made ctx wanted node)))
 
 new_fine : (tree : Tree) (ctx : Ctx) (number : Option ℕ) (at : ℕ) (directory : Node) (name : List ℕ)
@@ -255,20 +255,20 @@ at_fine : (tree : Tree) (ctx : Ctx) (how : CreateHow) (number : Option ℕ) (at 
 at_fine tree ctx how number at directory name None = new_fine tree ctx number at directory name how
 at_fine tree ctx how number at directory name (Some file) = over_fine tree ctx how file.0 file.1
 
-rename_file_fine : (tree : Tree) (ctx : Ctx) (source target : Place) (found replaced : Option (ℕ × Node))
+rename_file_fine : (tree : Tree) (ctx : Ctx) (source target : Dentry) (found replaced : Option (ℕ × Node))
     → fails (rename_file tree ctx source target found replaced) ≡ false
 rename_file_fine tree ctx source target None replaced = refl
 rename_file_fine tree ctx source target (Some file) replaced =
     by_cond (given replaced (λ other. nat_eq other.0 file.0)) (Ok (record { answer = tt; next = tree }))
     (move tree ctx file.0 file.1 source target replaced) refl
     (by_unless (move_refusal tree file.0 file.1 source target replaced)
-    (if_entry tree (new_entry (Some file.0) (new_slot source target))
+    (if_dirent tree (new_dirent (Some file.0) (new_slot source target))
     (with_moved tree ctx.moment file.0 file.1 source target replaced))
     (by_tests (move_tests tree file source.number (target.number, target.directory) replaced) refl)
-    (by_entry tree (new_entry (Some file.0) (new_slot source target))
+    (by_dirent tree (new_dirent (Some file.0) (new_slot source target))
     (with_moved tree ctx.moment file.0 file.1 source target replaced)))
 
-rename_fine : (tree : Tree) (ctx : Ctx) (source target : Place)
+rename_fine : (tree : Tree) (ctx : Ctx) (source target : Dentry)
     → fails (rename tree ctx source target) ≡ false
 rename_fine tree ctx source target =
     by_unless (places_refusal tree ctx.credential source target)
@@ -282,15 +282,15 @@ link_fine : (tree : Tree) (ctx : Ctx) (name : List ℕ) (number : ℕ) (node : N
     → fails (link tree ctx name number node at directory) ≡ false
 link_fine tree ctx name number node at directory =
     by_unless (link_refusal tree ctx.credential name node directory)
-    (if_entry tree (new_entry (Some number) (least_free_slot directory.body))
-    (with_link tree ctx.moment name number node at)) (place_fine
+    (if_dirent tree (new_dirent (Some number) (least_free_slot directory.body))
+    (with_link tree ctx.moment name number node at)) (dentry_fine
     (may_change ctx.credential directory) directory name
     (link_tests name node (named_file tree directory name)) refl)
-    (by_entry tree (new_entry (Some number) (least_free_slot directory.body))
+    (by_dirent tree (new_dirent (Some number) (least_free_slot directory.body))
     (with_link tree ctx.moment name number node at))
 
 listing_fine : (caller : Credential) (cookie : ℕ) (verifier : Verifier) (count : ℕ) (directory : Node)
-    (left some : List ListedEntry)
+    (left some : List ListedItem)
     → fails_test (listing_refusal caller cookie verifier count directory left some) ≡ false
 listing_fine caller cookie verifier count directory left some = by_tests (
     (is_no_directory directory, status.NotDir)
@@ -303,51 +303,51 @@ pub untested : (tree next : Tree) (ctx : Ctx) (new : Option ℕ) (asked : Call) 
     → is_mknod asked ≡ false → numbered_step tree ctx new asked answered next
     → tells_one_of is_failure answered ≡ false
 untested tree next ctx new (call.GetAttr object) (reply.GetAttr outcome) e s =
-    ap fails s.told ∙ attributes_fine (find_file tree object.bytes) (find_fine tree object.bytes)
-untested tree next ctx new (call.SetAttr object wanted guard) (reply.SetAttr outcome told) e s =
-    set_fine tree next ctx wanted guard (find_file tree object.bytes) outcome told
+    ap fails s.attributes_answered ∙ attributes_fine (find_file tree object.bytes) (find_fine tree object.bytes)
+untested tree next ctx new (call.SetAttr object wanted guard) (reply.SetAttr outcome file_attributes) e s =
+    set_fine tree next ctx wanted guard (find_file tree object.bytes) outcome file_attributes
     (find_fine tree object.bytes) s
-untested tree next ctx new (call.Lookup name) (reply.Lookup outcome told) e s =
-    told_fine tree next _ _ outcome told s (λ number directory. by_unless
-    (first_of_tests (place_tests (may_search ctx.credential directory) directory name.name))
-    (ok_or (option_map looked (found_under tree number directory name.name)) status.NoEnt) (by_tests
-    (place_tests (may_search ctx.credential directory) directory name.name) refl)
+untested tree next ctx new (call.Lookup name) (reply.Lookup outcome file_attributes) e s =
+    query_fine tree next _ _ outcome file_attributes s (λ number directory. by_unless
+    (first_of_tests (dentry_tests (may_search ctx.credential directory) directory name.name))
+    (ok_or (option_map lookup_result (found_under tree number directory name.name)) status.NoEnt) (by_tests
+    (dentry_tests (may_search ctx.credential directory) directory name.name) refl)
     (ok_or_fine _ status.NoEnt refl))
-untested tree next ctx new (call.Access object bits) (reply.Access outcome told) e s =
-    told_fine tree next _ _ outcome told s (λ _ _. refl)
-untested tree next ctx new (call.ReadLink link) (reply.ReadLink outcome told) e s =
-    told_fine tree next _ _ outcome told s (λ _ node. target_fine node.body)
-untested tree next ctx new (call.Read file offset count) (reply.Read outcome told) e s =
-    told_fine tree next _ _ outcome told s (λ number node. by_unless (read_refusal ctx.credential node)
+untested tree next ctx new (call.Access object bits) (reply.Access outcome file_attributes) e s =
+    query_fine tree next _ _ outcome file_attributes s (λ _ _. refl)
+untested tree next ctx new (call.ReadLink link) (reply.ReadLink outcome file_attributes) e s =
+    query_fine tree next _ _ outcome file_attributes s (λ _ node. target_fine node.body)
+untested tree next ctx new (call.Read file offset count) (reply.Read outcome file_attributes) e s =
+    query_fine tree next _ _ outcome file_attributes s (λ number node. by_unless (read_refusal ctx.credential node)
     (Ok (read_bytes offset (bytes_of node.body) (piece offset count (bytes_of node.body)))) (by_tests (
     (not (is_regular node.body), status.Inval)
     ∷ (not (may_read_file ctx.credential node), status.Acces)
     ∷ []) refl) refl)
-untested tree next ctx new (call.ReadDir directory cookie verifier count) (reply.ReadDir outcome told) e s =
-    told_fine tree next _ _ outcome told s (λ number node.
+untested tree next ctx new (call.ReadDir directory cookie verifier count) (reply.ReadDir outcome file_attributes) e s =
+    query_fine tree next _ _ outcome file_attributes s (λ number node.
     let left = listed_behind cookie number node.body in
-    let some = fitting entry_bytes (entry_room count) left in
+    let some = fitting listed_bytes (listing_budget count) left in
     by_ok (listing_refusal ctx.credential cookie verifier count node left some)
     (record { verifier = listing_verifier; entries = some; eof = is_end left some })
     (listing_fine ctx.credential cookie verifier count node left some))
 untested tree next ctx new (call.ReadDirPlus directory cookie verifier names_count count)
-    (reply.ReadDirPlus outcome told) e s =
-    told_fine tree next _ _ outcome told s (λ number node.
+    (reply.ReadDirPlus outcome file_attributes) e s =
+    query_fine tree next _ _ outcome file_attributes s (λ number node.
     let left = listed_behind cookie number node.body in
-    let some = fitting_both names_count (entry_room count) left in
+    let some = fitting_both names_count (listing_budget count) left in
     by_ok (listing_refusal ctx.credential cookie verifier count node left some)
     (record { verifier = listing_verifier; entries = map (plus tree) some; eof = is_end left some })
     (listing_fine ctx.credential cookie verifier count node left some))
-untested tree next ctx new (call.FsStat object) (reply.FsStat outcome told) e s =
-    told_fine tree next _ _ outcome told s (λ _ _. refl)
-untested tree next ctx new (call.FsInfo object) (reply.FsInfo outcome told) e s =
-    told_fine tree next _ _ outcome told s (λ _ _. refl)
-untested tree next ctx new (call.PathConf object) (reply.PathConf outcome told) e s =
-    told_fine tree next _ _ outcome told s (λ _ _. refl)
-untested tree next ctx new (call.Write file offset count stability text) (reply.Write outcome told) e s =
-    acted_fine tree next _ _ outcome told s (λ number node. by_unless
+untested tree next ctx new (call.FsStat object) (reply.FsStat outcome file_attributes) e s =
+    query_fine tree next _ _ outcome file_attributes s (λ _ _. refl)
+untested tree next ctx new (call.FsInfo object) (reply.FsInfo outcome file_attributes) e s =
+    query_fine tree next _ _ outcome file_attributes s (λ _ _. refl)
+untested tree next ctx new (call.PathConf object) (reply.PathConf outcome file_attributes) e s =
+    query_fine tree next _ _ outcome file_attributes s (λ _ _. refl)
+untested tree next ctx new (call.Write file offset count stability text) (reply.Write outcome file_attributes) e s =
+    acted_fine tree next _ _ outcome file_attributes s (λ number node. by_unless
     (write_refusal ctx.credential offset count text node)
-    (if_room tree (record {
+    (if_space tree (record {
       answer = written_reply ctx count stability;
       next = with_node tree number (written ctx.moment offset text node);
     })) (by_tests (
@@ -356,59 +356,59 @@ untested tree next ctx new (call.Write file offset count stability text) (reply.
     ∷ (not (may_write_file ctx.credential node), status.Acces)
     ∷ (nat_lt LARGEST_FILE (offset + count), status.FBig)
     ∷ []) refl)
-    (by_room tree _))
-untested tree next ctx new (call.Create name how) (reply.Create outcome told) e s =
-    acted_fine tree next _ _ outcome told s (λ at directory. by_unless
-    (first_of_tests (place_tests (may_change ctx.credential directory) directory name.name
+    (by_space tree _))
+untested tree next ctx new (call.Create name how) (reply.Create outcome file_attributes) e s =
+    acted_fine tree next _ _ outcome file_attributes s (λ at directory. by_unless
+    (first_of_tests (dentry_tests (may_change ctx.credential directory) directory name.name
     ++ (is_own_name name.name, status.Exist) ∷ []))
-    (create_at tree ctx how new at directory name.name (named_file tree directory name.name)) (place_fine
+    (create_at tree ctx how new at directory name.name (named_file tree directory name.name)) (dentry_fine
     (may_change ctx.credential directory) directory name.name
     ((is_own_name name.name, status.Exist) ∷ []) refl)
     (at_fine tree ctx how new at directory name.name (named_file tree directory name.name)))
-untested tree next ctx new (call.MkDir name wanted) (reply.MkDir outcome told) e s =
-    acted_fine tree next _ _ outcome told s (λ at directory. by_unless
-    (first_of_tests (place_tests (may_change ctx.credential directory) directory name.name
+untested tree next ctx new (call.MkDir name wanted) (reply.MkDir outcome file_attributes) e s =
+    acted_fine tree next _ _ outcome file_attributes s (λ at directory. by_unless
+    (first_of_tests (dentry_tests (may_change ctx.credential directory) directory name.name
     ++ mkdir_tests name.name directory (named_file tree directory name.name)))
     (make tree ctx new at directory name.name (without_size wanted)
-    (fresh ctx NEW_DIRECTORY_MODE None (Directory map.empty 0 at))) (place_fine
+    (fresh ctx NEW_DIRECTORY_MODE None (Directory map.empty 0 at))) (dentry_fine
     (may_change ctx.credential directory) directory name.name
     (mkdir_tests name.name directory (named_file tree directory name.name)) refl)
     (make_fine tree ctx new at directory name.name (without_size wanted)
     (fresh ctx NEW_DIRECTORY_MODE None (Directory map.empty 0 at))))
-untested tree next ctx new (call.SymLink name wanted target) (reply.SymLink outcome told) e s =
-    acted_fine tree next _ _ outcome told s (λ at directory. by_unless
-    (first_of_tests (place_tests (may_change ctx.credential directory) directory name.name
+untested tree next ctx new (call.SymLink name wanted target) (reply.SymLink outcome file_attributes) e s =
+    acted_fine tree next _ _ outcome file_attributes s (λ at directory. by_unless
+    (first_of_tests (dentry_tests (may_change ctx.credential directory) directory name.name
     ++ symlink_tests name.name target (named_file tree directory name.name)))
     (make tree ctx new at directory name.name (without_size wanted) (fresh ctx NEW_LINK_MODE None
     (Link target)))
-    (place_fine (may_change ctx.credential directory) directory name.name
+    (dentry_fine (may_change ctx.credential directory) directory name.name
     (symlink_tests name.name target (named_file tree directory name.name)) refl)
     (make_fine tree ctx new at directory name.name (without_size wanted)
     (fresh ctx NEW_LINK_MODE None (Link target))))
-untested tree next ctx new (call.MkNod name special) (reply.MkNod outcome told) e s = cc
-untested tree next ctx new (call.Remove name) (reply.Remove outcome told) e s =
-    acted_fine tree next _ _ outcome told s (λ at directory. by_ok
+untested tree next ctx new (call.MkNod name special) (reply.MkNod outcome file_attributes) e s = cc
+untested tree next ctx new (call.Remove name) (reply.Remove outcome file_attributes) e s =
+    acted_fine tree next _ _ outcome file_attributes s (λ at directory. by_ok
     (remove_refusal ctx.credential directory name.name (named_file tree directory name.name))
     (record {
       answer = tt;
       next = without_name tree ctx.moment at name.name (named_file tree directory name.name);
-    }) (place_fine (may_change ctx.credential directory) directory name.name
+    }) (dentry_fine (may_change ctx.credential directory) directory name.name
     (remove_tests name.name (named_file tree directory name.name)) refl))
-untested tree next ctx new (call.RmDir name) (reply.RmDir outcome told) e s =
-    acted_fine tree next _ _ outcome told s (λ at directory. by_ok
+untested tree next ctx new (call.RmDir name) (reply.RmDir outcome file_attributes) e s =
+    acted_fine tree next _ _ outcome file_attributes s (λ at directory. by_ok
     (rmdir_refusal ctx.credential directory name.name (named_file tree directory name.name))
     (record {
       answer = tt;
       next = without_name tree ctx.moment at name.name (named_file tree directory name.name);
-    }) (place_fine (may_change ctx.credential directory) directory name.name
+    }) (dentry_fine (may_change ctx.credential directory) directory name.name
     (rmdir_tests name.name (named_file tree directory name.name)) refl))
-untested tree next ctx new (call.Commit file offset count) (reply.Commit outcome told) e s =
-    acted_fine tree next _ _ outcome told s (λ number node. by_ok (commit_refusal ctx.credential node)
+untested tree next ctx new (call.Commit file offset count) (reply.Commit outcome file_attributes) e s =
+    acted_fine tree next _ _ outcome file_attributes s (λ number node. by_ok (commit_refusal ctx.credential node)
     (record { answer = boot_verifier ctx.boot; next = tree }) (by_tests (
     (not (is_regular node.body), status.Inval)
     ∷ (not (may_write_file ctx.credential node), status.Acces)
     ∷ []) refl))
-untested tree next ctx new (call.Rename source target) (reply.Rename outcome told told_too) e s =
+untested tree next ctx new (call.Rename source target) (reply.Rename outcome file_attributes other_attributes) e s =
     ap fails s.answered
     ∙ by_answer (renaming tree ctx source.directory.bytes source.name target.directory.bytes target.name)
     (by_found (find_file tree source.directory.bytes) (λ number directory. found_then
@@ -423,7 +423,7 @@ untested tree next ctx new (call.Rename source target) (reply.Rename outcome tol
     (λ other parent. rename_fine tree ctx
     (record { number = number; directory = directory; name = source.name })
     (record { number = other; directory = parent; name = target.name }))))
-untested tree next ctx new (call.Link file name) (reply.Link outcome told told_too) e s =
+untested tree next ctx new (call.Link file name) (reply.Link outcome file_attributes other_attributes) e s =
     ap fails s.answered
     ∙ by_answer (linking tree ctx file.bytes name.directory.bytes name.name)
     (by_found (find_file tree file.bytes) (λ number node. found_then (find_file tree name.directory.bytes)
@@ -440,13 +440,13 @@ mknod_fine : (found : Result (ℕ × Node) Status) → fails found ≡ false
 mknod_fine (Ok found) e = refl
 mknod_fine (Err s) e = e
 
-mknod_told : (tree next : Tree) (ctx : Ctx) (new : Option ℕ) (asked : Call) (answered : Reply)
+mknod_fails : (tree next : Tree) (ctx : Ctx) (new : Option ℕ) (asked : Call) (answered : Reply)
     → is_mknod asked ≡ true → numbered_step tree ctx new asked answered next → tells_failure answered ≡ false
-mknod_told tree next ctx new (call.MkNod name special) (reply.MkNod outcome told) e s =
+mknod_fails tree next ctx new (call.MkNod name special) (reply.MkNod outcome file_attributes) e s =
     ap (fails_with is_failure) s.answered
     ∙ mknod_fine (find_file tree name.directory.bytes) (find_fine tree name.directory.bytes)
-mknod_told tree next ctx new (call.MkNod name special) _ e s = absurd s
-mknod_told tree next ctx new _ _ e s = cc
+mknod_fails tree next ctx new (call.MkNod name special) _ e s = absurd s
+mknod_fails tree next ctx new _ _ e s = cc
 
 -- ---- no step tells of a failure
 
@@ -481,7 +481,7 @@ reply_fine (reply.Commit outcome _) e = outcome_fine outcome e
 
 by_kind : (tree next : Tree) (ctx : Ctx) (new : Option ℕ) (asked : Call) (answered : Reply) (kind : Bool)
     → is_mknod asked ≡ kind → numbered_step tree ctx new asked answered next → tells_failure answered ≡ false
-by_kind tree next ctx new asked answered true e s = mknod_told tree next ctx new asked answered e s
+by_kind tree next ctx new asked answered true e s = mknod_fails tree next ctx new asked answered e s
 by_kind tree next ctx new asked answered false e s =
     reply_fine answered (untested tree next ctx new asked answered e s)
 
@@ -490,7 +490,7 @@ pub no_failure : (tree next : Tree) (ctx : Ctx) (new : Option ℕ) (asked : Call
 no_failure tree next ctx new asked answered s = by_kind tree next ctx new asked answered (is_mknod asked) refl s
 
 -- a call that is answered stable has a status, and so the reply with such a status tells of it
-pub told_stable : (failure : Status) (asked : Call) → is_failure failure ≡ true
+pub stable_tells_failure : (failure : Status) (asked : Call) → is_failure failure ≡ true
     → is_answered_stable asked ≡ true → tells_failure (refused failure asked) ≡ true
-told_stable failure call.Null fails stable = cc
-told_stable failure _ fails stable = fails
+stable_tells_failure failure call.Null fails stable = cc
+stable_tells_failure failure _ fails stable = fails

@@ -9,12 +9,12 @@ use Rattle.nfs_spec.specs.Model.Names.{names_of, parent_in, parent_of}
 use Rattle.nfs_spec.specs.Model.Node.{Node, Body}
 use Rattle.nfs_spec.specs.Model.Sound.{SoundNode}
 use Rattle.nfs_spec.specs.Model.Tree.{Tree, node_at}
-use Rattle.nfs_spec.proofs.ProceduresLemmas.Lacking.{Change, Kept, Lacking, LackingAt, LackingChild, LackingDirectory}
+use Rattle.nfs_spec.proofs.ProceduresLemmas.Lacking.{Change, ArePreserved, Lacking, LackingAt, LackingChild, LackingDirectory}
 use Rattle.nfs_spec.proofs.ProceduresLemmas.Lacking.{ParentNow, Reached, changed_tree, equal_or_not}
-use Rattle.nfs_spec.proofs.ProceduresLemmas.Lacking.{kept_at}
+use Rattle.nfs_spec.proofs.ProceduresLemmas.Lacking.{preserved_at}
 
 pub names_in_none : (q : ℕ) (body : Body) → entries_of body ≡ [] → names_in q body ≡ 0
-names_in_none q body none = ap (count_by (λ entry. nat_eq entry.1.number q)) none
+names_in_none q body none = ap (count_by (λ dirent. nat_eq dirent.1.number q)) none
 
 -- A file that becomes another.
 module _ (tree next : Tree) (lacks after : ℕ → ℕ) (number : ℕ) (old new : Node)
@@ -32,15 +32,15 @@ module _ (tree next : Tree) (lacks after : ℕ → ℕ) (number : ℕ) (old new 
 
   children : (body : Body) → child_directories next body ≡ child_directories tree body
   children body =
-      λ i. count_by (λ entry. alike is_directory_at same entry.1.number i) (entries_of body)
+      λ i. count_by (λ dirent. alike is_directory_at same dirent.1.number i) (entries_of body)
 
-  stand : (body : Body) → All (λ entry. IsSome (node_at tree entry.1.number)) (entries_of body)
-      → All (λ entry. IsSome (node_at next entry.1.number)) (entries_of body)
+  stand : (body : Body) → All (λ dirent. IsSome (node_at tree dirent.1.number)) (entries_of body)
+      → All (λ dirent. IsSome (node_at next dirent.1.number)) (entries_of body)
   stand body all index d inside =
       alike is_some refl (get_or (entries_of body) index d).1.number ∙ all index d inside
 
   names : (q : ℕ) → names_of next q + names_in q old.body ≡ names_of tree q + names_in q new.body
-  names q = change.sums (λ entry. names_in q entry.1.body)
+  names q = change.sums (λ dirent. names_in q dirent.1.body)
 
   pub ancestors : parent_of new.body ≡ parent_of old.body → (steps q : ℕ)
       → ancestor next steps q ≡ ancestor tree steps q
@@ -55,7 +55,7 @@ module _ (tree next : Tree) (lacks after : ℕ → ℕ) (number : ℕ) (old new 
   parent_by : (q p : ℕ) (parent : Node) → node_at tree p ≡ Some parent
       → (p ≡ number → names_in q new.body + after q ≡ names_in q old.body + lacks q)
       → (p ≢ number → after q ≡ lacks q) → ParentNow next after q p (names_in q parent.body + lacks q)
-  parent_by q p parent is changes keeps =
+  parent_by q p parent is changes preserves =
       elim (equal_or_not p number) [
         | inl same_number ↦
             let one : Some old ≡ Some parent = sym change.was ∙ ap (node_at tree) (sym same_number) ∙ is in
@@ -68,18 +68,18 @@ module _ (tree next : Tree) (lacks after : ℕ → ℕ) (number : ℕ) (old new 
         | inr apart ↦ record {
           node = parent;
           is = change.there p apart ∙ is;
-          names = ap (λ n. names_in q parent.body + n) (keeps apart);
+          names = ap (λ n. names_in q parent.body + n) (preserves apart);
         }
       ]
 
   -- what is kept of a file beside
-  beside : (q : ℕ) (node : Node) → q ≢ number → node_at tree q ≡ Some node
+  unaffected : (q : ℕ) (node : Node) → q ≢ number → node_at tree q ≡ Some node
       → names_of next q + after q ≡ names_of tree q + lacks q
       → (is_directory node.body ≡ true → q ≢ ROOT → (parent : Node)
       → node_at tree (parent_of node.body) ≡ Some parent
       → ParentNow next after q (parent_of node.body) (names_in q parent.body + lacks q))
-      → (Reached tree q → Reached next q) → Kept tree next lacks after q node node
-  beside q node apart is named parent reached =
+      → (Reached tree q → Reached next q) → ArePreserved tree next lacks after q node node
+  unaffected q node apart is named parent reached =
       let at = good.files q node is in
       record {
         itself = at.itself;
@@ -116,25 +116,25 @@ module _ (tree next : Tree) (lacks after : ℕ → ℕ) (number : ℕ) (old new 
   same_names q =
       let sum = names tree next lacks after number old new change good shape.directory q in
       let same : names_in q new.body ≡ names_in q old.body =
-      ap (count_by (λ entry. nat_eq entry.1.number q)) shape.entries_are in
+      ap (count_by (λ dirent. nat_eq dirent.1.number q)) shape.entries_are in
       omega (arith, sum, same)
 
   parent_of_q : (q p : ℕ) (parent : Node) → node_at tree p ≡ Some parent → after q ≡ lacks q
       → ParentNow next after q p (names_in q parent.body + lacks q)
-  parent_of_q q p parent is keeps =
+  parent_of_q q p parent is preserves =
       let same : names_in q new.body ≡ names_in q old.body =
-      ap (count_by (λ entry. nat_eq entry.1.number q)) shape.entries_are in
+      ap (count_by (λ dirent. nat_eq dirent.1.number q)) shape.entries_are in
       parent_by tree next lacks after number old new change good shape.directory q p parent is
-      (λ _. omega (arith, same, keeps)) (λ _. keeps)
+      (λ _. omega (arith, same, preserves)) (λ _. preserves)
 
-  at_number : Kept tree next lacks after number old new
+  at_number : ArePreserved tree next lacks after number old new
   at_number =
       let at = good.files number old change.was in
       record {
         itself = shape.itself;
         directory = shape.directory;
         names = stand tree next lacks after number old new change good shape.directory new.body
-            (subst (All (λ entry. IsSome (node_at tree entry.1.number))) (sym shape.entries_are) at.names);
+            (subst (All (λ dirent. IsSome (node_at tree dirent.1.number))) (sym shape.entries_are) at.names);
         links = λ no file. record {
           counted =
               let was = file.counted in
@@ -147,7 +147,7 @@ module _ (tree next : Tree) (lacks after : ℕ → ℕ) (number : ℕ) (old new 
             let links = shape.links dir in
             let same = children tree next lacks after number old new change good shape.directory new.body in
             let entries_same : child_directories tree new.body ≡ child_directories tree old.body =
-            ap (count_by (λ entry. is_directory_at (node_at tree entry.1.number))) shape.entries_are in
+            ap (count_by (λ dirent. is_directory_at (node_at tree dirent.1.number))) shape.entries_are in
             omega (arith, links, same, entries_same);
         named = λ dir. let same = same_names number in let whole =
             shape.whole dir in omega (arith, same, whole);
@@ -160,10 +160,10 @@ module _ (tree next : Tree) (lacks after : ℕ → ℕ) (number : ℕ) (old new 
       }
 
   besides : (q : ℕ) (node : Node) → q ≢ number → node_at tree q ≡ Some node
-      → Kept tree next lacks after q node node
+      → ArePreserved tree next lacks after q node node
   besides q node apart is =
-      beside tree next lacks after number old new change good shape.directory q node apart is
-      (let same = same_names q in let keeps = shape.others q apart in omega (arith, same, keeps))
+      unaffected tree next lacks after number old new change good shape.directory q node apart is
+      (let same = same_names q in let preserves = shape.others q apart in omega (arith, same, preserves))
       (λ dir other parent parent_is. parent_of_q q (parent_of node.body) parent parent_is
       (shape.others q apart))
       (still tree next lacks after number old new change good shape.directory shape.parent q)
@@ -179,7 +179,7 @@ module _ (tree next : Tree) (lacks after : ℕ → ℕ) (number : ℕ) (old new 
       (λ node is.
       let one : new ≡ node = cc in
       subst (LackingAt next after number) one
-      (kept_at tree next lacks after change.geometry number old new
+      (preserved_at tree next lacks after change.geometry number old new
       (good.files number old change.was) at_number))
       besides (
         λ is. shape.directory ∙ ap (λ n. is_directory n.body) (root_old is) ∙ good.root_directory,
@@ -193,7 +193,7 @@ pub record Reentered (tree : Tree) (lacks after : ℕ → ℕ) (number : ℕ) (o
   pub directory : is_directory new.body ≡ true
   pub parent : parent_of new.body ≡ parent_of old.body
   pub stamp : new.stamp ≡ old.stamp
-  pub stand : All (λ entry. IsSome (node_at tree entry.1.number)) (entries_of new.body)
+  pub stand : All (λ dirent. IsSome (node_at tree dirent.1.number)) (entries_of new.body)
   pub names : (q : ℕ) → names_in q new.body + after q ≡ names_in q old.body + lacks q
   pub links : new.nlink + child_directories tree old.body ≡ old.nlink + child_directories tree new.body
   pub children : (q : ℕ) (node : Node) → node_at tree q ≡ Some node → is_directory node.body ≡ true → q ≢ ROOT
@@ -201,14 +201,14 @@ pub record Reentered (tree : Tree) (lacks after : ℕ → ℕ) (number : ℕ) (o
 
 module _ (tree next : Tree) (lacks after : ℕ → ℕ) (number : ℕ) (old new : Node)
     (change : Change tree next number (Some old) (Some new)) (good : Lacking tree lacks)
-    (entry : Reentered tree lacks after number old new) where
+    (dirent : Reentered tree lacks after number old new) where
   same_kind : is_directory new.body ≡ is_directory old.body
-  same_kind = entry.directory ∙ sym entry.was_directory
+  same_kind = dirent.directory ∙ sym dirent.was_directory
 
   named_as : (q : ℕ) → names_of next q + after q ≡ names_of tree q + lacks q
   named_as q =
       let sum = names tree next lacks after number old new change good same_kind q in
-      let here = entry.names q in
+      let here = dirent.names q in
       omega (arith, sum, here)
 
   parent_as : (q : ℕ) (node : Node) → node_at tree q ≡ Some node → is_directory node.body ≡ true → q ≢ ROOT
@@ -216,32 +216,32 @@ module _ (tree next : Tree) (lacks after : ℕ → ℕ) (number : ℕ) (old new 
       → ParentNow next after q (parent_of node.body) (names_in q parent.body + lacks q)
   parent_as q node is dir other parent parent_is =
       parent_by tree next lacks after number old new change good same_kind q (parent_of node.body) parent
-      parent_is (λ _. entry.names q) (λ apart. entry.children q node is dir other apart)
+      parent_is (λ _. dirent.names q) (λ apart. dirent.children q node is dir other apart)
 
-  entered_at : Kept tree next lacks after number old new
+  entered_at : ArePreserved tree next lacks after number old new
   entered_at = record {
-    itself = entry.itself;
+    itself = dirent.itself;
     directory = same_kind;
-    names = stand tree next lacks after number old new change good same_kind new.body entry.stand;
-    links = λ no file. let never : true ≡ false = sym entry.was_directory ∙ no in cc;
+    names = stand tree next lacks after number old new change good same_kind new.body dirent.stand;
+    links = λ no file. let never : true ≡ false = sym dirent.was_directory ∙ no in cc;
     counted = λ dir.
-        let links = entry.links in
+        let links = dirent.links in
         let same = children tree next lacks after number old new change good same_kind new.body in
         omega (arith, links, same);
     named = λ dir. named_as number;
-    root = λ dir is_root. entry.parent;
+    root = λ dir is_root. dirent.parent;
     child = λ dir other parent is.
         subst (λ p. ParentNow next after number p (names_in number parent.body + lacks number))
-        (sym entry.parent) (parent_as number old change.was dir other parent is);
-    reached = λ dir. still tree next lacks after number old new change good same_kind entry.parent number;
+        (sym dirent.parent) (parent_as number old change.was dir other parent is);
+    reached = λ dir. still tree next lacks after number old new change good same_kind dirent.parent number;
   }
 
-  entered_beside : (q : ℕ) (node : Node) → q ≢ number → node_at tree q ≡ Some node
-      → Kept tree next lacks after q node node
-  entered_beside q node apart is =
-      beside tree next lacks after number old new change good same_kind q node apart is (named_as q)
+  entered_unaffected : (q : ℕ) (node : Node) → q ≢ number → node_at tree q ≡ Some node
+      → ArePreserved tree next lacks after q node node
+  entered_unaffected q node apart is =
+      unaffected tree next lacks after number old new change good same_kind q node apart is (named_as q)
       (λ dir other parent parent_is. parent_as q node is dir other parent parent_is)
-      (still tree next lacks after number old new change good same_kind entry.parent q)
+      (still tree next lacks after number old new change good same_kind dirent.parent q)
 
   root_was : number ≡ ROOT → old ≡ good.root
   root_was is =
@@ -254,9 +254,9 @@ module _ (tree next : Tree) (lacks after : ℕ → ℕ) (number : ℕ) (old new 
       (λ node is.
       let one : new ≡ node = cc in
       subst (LackingAt next after number) one
-      (kept_at tree next lacks after change.geometry number old new
-      (good.files number old change.was) entered_at)) entered_beside
-      (λ is. entry.directory, λ is. entry.stamp ∙ ap (λ n. n.stamp) (root_was is) ∙ good.root_stamp)
+      (preserved_at tree next lacks after change.geometry number old new
+      (good.files number old change.was) entered_at)) entered_unaffected
+      (λ is. dirent.directory, λ is. dirent.stamp ∙ ap (λ n. n.stamp) (root_was is) ∙ good.root_stamp)
 
 -- A directory that lacks its name gets another parent, below which it doesn't lie.
 pub record Moved (tree : Tree) (lacks : ℕ → ℕ) (number parent : ℕ) (old new : Node) : Type 0 where
@@ -280,7 +280,7 @@ module _ (tree next : Tree) (lacks : ℕ → ℕ) (number parent : ℕ) (old new
   kind = move.directory ∙ sym move.was_directory
 
   in_both : (q : ℕ) → names_in q new.body ≡ names_in q old.body
-  in_both q = ap (count_by (λ entry. nat_eq entry.1.number q)) move.entries_are
+  in_both q = ap (count_by (λ dirent. nat_eq dirent.1.number q)) move.entries_are
 
   names_stay : (q : ℕ) → names_of next q ≡ names_of tree q
   names_stay q =
@@ -338,7 +338,7 @@ module _ (tree next : Tree) (lacks : ℕ → ℕ) (number parent : ℕ) (old new
         let links = move.links in
         let same = children tree next lacks lacks number old new change good kind new.body in
         let entries_same : child_directories tree new.body ≡ child_directories tree old.body =
-        ap (count_by (λ entry. is_directory_at (node_at tree entry.1.number))) move.entries_are in
+        ap (count_by (λ dirent. is_directory_at (node_at tree dirent.1.number))) move.entries_are in
         omega (arith, was, links, same, entries_same);
     root = λ is. absurd (move.not_root is);
     child = λ other. moved_child (d.child other);
@@ -351,7 +351,7 @@ module _ (tree next : Tree) (lacks : ℕ → ℕ) (number parent : ℕ) (old new
     most = subst (λ g. number < g.inodes) (sym change.geometry) at.most;
     itself = move.itself;
     names = stand tree next lacks lacks number old new change good kind new.body
-        (subst (All (λ entry. IsSome (node_at tree entry.1.number))) (sym move.entries_are) at.names);
+        (subst (All (λ dirent. IsSome (node_at tree dirent.1.number))) (sym move.entries_are) at.names);
     links = λ no. let never : true ≡ false = sym move.directory ∙ no in cc;
     directory = λ dir. moved_directory (at.directory move.was_directory);
   }
@@ -364,7 +364,7 @@ module _ (tree next : Tree) (lacks : ℕ → ℕ) (number parent : ℕ) (old new
       let one : new ≡ node = cc in
       subst (LackingAt next lacks number) one (moved_at (good.files number old change.was)))
       (λ q node apart is.
-      beside tree next lacks lacks number old new change good kind q node apart is
+      unaffected tree next lacks lacks number old new change good kind q node apart is
       (ap (λ n. n + lacks q) (names_stay q))
       (λ dir other p p_is. parent_stays q (parent_of node.body) p p_is)
       (λ reached. reached_by reached.0 q reached.1))

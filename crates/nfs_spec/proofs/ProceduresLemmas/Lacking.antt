@@ -45,7 +45,7 @@ pub record LackingAt (tree : Tree) (lacks : ℕ → ℕ) (number : ℕ) (node : 
   pub least : 0 < number
   pub most : number < tree.geometry.inodes
   pub itself : SoundNode node
-  pub names : All (λ entry. IsSome (node_at tree entry.1.number)) (entries_of node.body)
+  pub names : All (λ dirent. IsSome (node_at tree dirent.1.number)) (entries_of node.body)
   pub links : is_directory node.body ≡ false → LackingFile tree lacks number node
   pub directory : is_directory node.body ≡ true → LackingDirectory tree lacks number node
 
@@ -122,14 +122,14 @@ module _ (tree : Tree) where
 
   -- where no file lacks a name and the blocks reach, the tree is sound
   pub to_sound : Lacking tree none_lacks → used tree ≤ tree.geometry.data_blocks → Sound tree
-  to_sound good room = record {
+  to_sound good has_space = record {
     geometry = good.geometry;
     root = good.root;
     root_is = good.root_is;
     root_directory = good.root_directory;
     root_stamp = good.root_stamp;
     files = λ number node is. to_at number node (good.files number node is);
-    room = room;
+    has_space = has_space;
   }
 
 -- A change of the file of one number: what stood under it, and what stands there now.
@@ -191,10 +191,10 @@ pub record ParentNow (next : Tree) (after : ℕ → ℕ) (number parent before :
   pub names : names_in number node.body + after number ≡ before
 
 -- What a step keeps of one file, which was `first` and is `node`.
-pub record Kept (tree next : Tree) (lacks after : ℕ → ℕ) (number : ℕ) (first node : Node) : Type 0 where
+pub record ArePreserved (tree next : Tree) (lacks after : ℕ → ℕ) (number : ℕ) (first node : Node) : Type 0 where
   pub itself : SoundNode node
   pub directory : is_directory node.body ≡ is_directory first.body
-  pub names : All (λ entry. IsSome (node_at next entry.1.number)) (entries_of node.body)
+  pub names : All (λ dirent. IsSome (node_at next dirent.1.number)) (entries_of node.body)
   pub links : is_directory first.body ≡ false → LackingFile tree lacks number first
       → LackingFile next after number node
   pub counted : is_directory first.body ≡ true
@@ -209,10 +209,10 @@ pub record Kept (tree next : Tree) (lacks after : ℕ → ℕ) (number : ℕ) (f
 
 module _ (tree next : Tree) (lacks after : ℕ → ℕ) (same : next.geometry ≡ tree.geometry) where
   module _ (number : ℕ) (first node : Node) (at : LackingAt tree lacks number first)
-      (kept : Kept tree next lacks after number first node) where
-    kept_root : is_directory first.body ≡ true → number ≡ ROOT → LackingRoot tree lacks first.body
+      (kept : ArePreserved tree next lacks after number first node) where
+    preserved_root : is_directory first.body ≡ true → number ≡ ROOT → LackingRoot tree lacks first.body
         → LackingRoot next after node.body
-    kept_root dir is root = record {
+    preserved_root dir is root = record {
       unnamed = let names = kept.named dir in
           let now = ap (λ n. names_of next n + after n) is in
           let before = ap (λ n. names_of tree n + lacks n) is in
@@ -221,9 +221,9 @@ module _ (tree next : Tree) (lacks after : ℕ → ℕ) (same : next.geometry �
       parent = kept.root dir is ∙ root.parent;
     }
 
-    kept_child : is_directory first.body ≡ true → number ≢ ROOT → LackingChild tree lacks number first.body
+    preserved_child : is_directory first.body ≡ true → number ≢ ROOT → LackingChild tree lacks number first.body
         → LackingChild next after number node.body
-    kept_child dir other child =
+    preserved_child dir other child =
         let parent = kept.child dir other child.parent child.parent_is in
         record {
           once = kept.named dir ∙ child.once;
@@ -232,36 +232,36 @@ module _ (tree next : Tree) (lacks after : ℕ → ℕ) (same : next.geometry �
           by_parent = parent.names ∙ child.by_parent;
         }
 
-    kept_directory : is_directory first.body ≡ true → LackingDirectory tree lacks number first
+    preserved_directory : is_directory first.body ≡ true → LackingDirectory tree lacks number first
         → LackingDirectory next after number node
-    kept_directory dir d = record {
+    preserved_directory dir d = record {
       counted = let links = kept.counted dir in let was = d.counted in omega (arith, links, was);
-      root = λ is. kept_root dir is (d.root is);
-      child = λ other. kept_child dir other (d.child other);
+      root = λ is. preserved_root dir is (d.root is);
+      child = λ other. preserved_child dir other (d.child other);
       reached = kept.reached dir d.reached;
     }
 
-    pub kept_at : LackingAt next after number node
-    kept_at = record {
+    pub preserved_at : LackingAt next after number node
+    preserved_at = record {
       least = at.least;
       most = subst (λ g. number < g.inodes) (sym same) at.most;
       itself = kept.itself;
       names = kept.names;
       links = λ no. let was = sym kept.directory ∙ no in kept.links was (at.links was);
-      directory = λ yes. let was = sym kept.directory ∙ yes in kept_directory was (at.directory was);
+      directory = λ yes. let was = sym kept.directory ∙ yes in preserved_directory was (at.directory was);
     }
 
 -- what the root needs of a change
-abbrev pub RootKept : ℕ → Option Node → Type 0
-RootKept number None = number ≢ ROOT
-RootKept number (Some new) = (number ≡ ROOT → is_directory new.body ≡ true)
+abbrev pub RootPreserved : ℕ → Option Node → Type 0
+RootPreserved number None = number ≢ ROOT
+RootPreserved number (Some new) = (number ≡ ROOT → is_directory new.body ≡ true)
     × (number ≡ ROOT → new.stamp ≡ record { boot = 0; transaction = 0 })
 
 module _ (tree next : Tree) (lacks after : ℕ → ℕ) (number : ℕ) (old new : Option Node)
     (change : Change tree next number old new) (good : Lacking tree lacks)
     (here : (node : Node) → new ≡ Some node → LackingAt next after number node)
     (there : (q : ℕ) (node : Node) → q ≢ number → node_at tree q ≡ Some node
-    → Kept tree next lacks after q node node) where
+    → ArePreserved tree next lacks after q node node) where
   file_at_q : (q : ℕ) (node : Node) → node_at next q ≡ Some node → LackingAt next after q node
   file_at_q q node is =
       elim (equal_or_not q number) [
@@ -270,7 +270,7 @@ module _ (tree next : Tree) (lacks after : ℕ → ℕ) (number : ℕ) (old new 
             (here node (sym change.here ∙ ap (node_at next) (sym same) ∙ is))
         | inr apart ↦
             let was : node_at tree q ≡ Some node = sym (change.there q apart) ∙ is in
-            kept_at tree next lacks after change.geometry q node node (good.files q node was)
+            preserved_at tree next lacks after change.geometry q node node (good.files q node was)
             (there q node apart was)
       ]
 
@@ -288,7 +288,7 @@ module _ (tree next : Tree) (lacks after : ℕ → ℕ) (number : ℕ) (old new 
     stamp = good.root_stamp;
   }
 
-  root_here : (now : Option Node) → node_at next number ≡ now → RootKept number now → ROOT ≡ number → RootNow
+  root_here : (now : Option Node) → node_at next number ≡ now → RootPreserved number now → ROOT ≡ number → RootNow
   root_here None is kept same = absurd (kept (sym same))
   root_here (Some node) is kept same = record {
     node = node;
@@ -297,7 +297,7 @@ module _ (tree next : Tree) (lacks after : ℕ → ℕ) (number : ℕ) (old new 
     stamp = kept.1 (sym same);
   }
 
-  root_now : RootKept number new → RootNow
+  root_now : RootPreserved number new → RootNow
   root_now kept =
       elim (equal_or_not ROOT number) [
         | inl same ↦ root_here new change.here kept same
@@ -305,7 +305,7 @@ module _ (tree next : Tree) (lacks after : ℕ → ℕ) (number : ℕ) (old new 
       ]
 
   -- The tree after a change of one file, from what becomes of it and what is kept of the others.
-  pub changed_tree : RootKept number new → Lacking next after
+  pub changed_tree : RootPreserved number new → Lacking next after
   changed_tree kept =
       let root = root_now kept in
       record {

@@ -12,23 +12,23 @@ use Rattle.nfs_spec.specs.Model.Cost.{cost}
 use Rattle.nfs_spec.specs.Model.Names.{ancestor, child_directories, entries_of, is_directory, is_directory_at}
 use Rattle.nfs_spec.specs.Model.Names.{names_in}
 use Rattle.nfs_spec.specs.Model.Names.{names_of, parent_in, parent_of}
-use Rattle.nfs_spec.specs.Model.Node.{Node, Body, DirectoryEntry, Regular, Directory, Link}
+use Rattle.nfs_spec.specs.Model.Node.{Node, Body, DirentValue, Regular, Directory, Link}
 use Rattle.nfs_spec.specs.Model.Sound.{SoundName, SoundTime}
 use Rattle.nfs_spec.specs.Model.Tree.{Tree, node_at, used, with_node}
 use Rattle.nfs_spec.proofs.ProceduresLemmas.Tests.{at_most_one, equal, neither, not_within, one_or_none, passes, yes_or_no}
 use Rattle.nfs_spec.proofs.ProceduresLemmas.Adding as adding
 use Rattle.nfs_spec.proofs.ProceduresLemmas.Adding.{gone, names_in_of}
-use Rattle.nfs_spec.proofs.ProceduresLemmas.Entering.{FreeSlot, count_departed, count_entered, named_in, node_departed}
-use Rattle.nfs_spec.proofs.ProceduresLemmas.Entering.{node_entered, same_kind_departed, same_kind_entered}
-use Rattle.nfs_spec.proofs.ProceduresLemmas.Entering.{same_parent_departed}
-use Rattle.nfs_spec.proofs.ProceduresLemmas.Entering.{same_parent_entered}
+use Rattle.nfs_spec.proofs.ProceduresLemmas.NameChanges.{FreeSlot, count_departed, count_entered, named_in, node_departed}
+use Rattle.nfs_spec.proofs.ProceduresLemmas.NameChanges.{node_entered, same_kind_departed, same_kind_entered}
+use Rattle.nfs_spec.proofs.ProceduresLemmas.NameChanges.{same_parent_departed}
+use Rattle.nfs_spec.proofs.ProceduresLemmas.NameChanges.{same_parent_entered}
 use Rattle.nfs_spec.proofs.ProceduresLemmas.Keeping as keeping
 use Rattle.nfs_spec.proofs.ProceduresLemmas.Keeping.{names_in_none, reentered, reshaped}
 use Rattle.nfs_spec.proofs.ProceduresLemmas.Lacking.{Lacking, Reached, equal_or_not, gone_change, put_change}
 use Rattle.nfs_spec.proofs.ProceduresLemmas.Parts.{each_fails, part, sum_none, sum_remove}
 use Rattle.nfs_spec.specs.Procedures.Changes.{departed, entered, is_last_name, parent_links, unnamed}
 use Rattle.nfs_spec.specs.Procedures.Changes.{without_node}
-use Rattle.nfs_spec.specs.Procedures.Places.{entry_at}
+use Rattle.nfs_spec.specs.Procedures.Places.{dirent_at}
 use Rattle.nfs_spec.specs.Procedures.RmDir.{has_names}
 
 -- one, of one number
@@ -62,50 +62,50 @@ two_names tree p r q a b apart a_is b_is =
     omega (arith, first, a_counts, rest)
 
 -- each entry names a file, by a count of those that don't
-pub unfounded : Tree → List ℕ × DirectoryEntry → Bool
-unfounded tree entry = not (is_some (node_at tree entry.1.number))
+pub unfounded : Tree → List ℕ × DirentValue → Bool
+unfounded tree dirent = not (is_some (node_at tree dirent.1.number))
 
-no_unfounded : (tree : Tree) (xs : List (List ℕ × DirectoryEntry))
-    → All (λ entry. IsSome (node_at tree entry.1.number)) xs → count_by (unfounded tree) xs ≡ 0
+no_unfounded : (tree : Tree) (xs : List (List ℕ × DirentValue))
+    → All (λ dirent. IsSome (node_at tree dirent.1.number)) xs → count_by (unfounded tree) xs ≡ 0
 unfolding unfounded
 no_unfounded tree xs all =
     sum_none (λ e. cond (unfounded tree e) 1 0) xs (λ index d inside.
     ap (λ b. cond (not b) 1 0) (all index d inside))
 
-all_founded : (tree : Tree) (xs : List (List ℕ × DirectoryEntry)) → count_by (unfounded tree) xs ≡ 0
-    → All (λ entry. IsSome (node_at tree entry.1.number)) xs
+all_founded : (tree : Tree) (xs : List (List ℕ × DirentValue)) → count_by (unfounded tree) xs ≡ 0
+    → All (λ dirent. IsSome (node_at tree dirent.1.number)) xs
 unfolding unfounded
 all_founded tree xs none index d inside = passes _ (each_fails (unfounded tree) xs none index d inside)
 
 -- an entry of a directory names a file
-pub entry_stands : (tree : Tree) (lacks : ℕ → ℕ) → Lacking tree lacks → (at : ℕ) (directory : Node)
-    → node_at tree at ≡ Some directory → (name : List ℕ) (entry : DirectoryEntry)
-    → entry_at directory.body name ≡ Some entry → is_some (node_at tree entry.number) ≡ true
+pub dirent_stands : (tree : Tree) (lacks : ℕ → ℕ) → Lacking tree lacks → (at : ℕ) (directory : Node)
+    → node_at tree at ≡ Some directory → (name : List ℕ) (dirent : DirentValue)
+    → dirent_at directory.body name ≡ Some dirent → is_some (node_at tree dirent.number) ≡ true
 unfolding unfounded
-entry_stands tree lacks good at directory stands name entry is =
+dirent_stands tree lacks good at directory stands name dirent is =
     let none = no_unfounded tree (entries_of directory.body) (good.files at directory stands).names in
-    let sum = count_departed (unfounded tree) name entry directory.body is in
-    passes _ (one_or_none (unfounded tree (name, entry)) (omega (arith, none, sum)))
+    let sum = count_departed (unfounded tree) name dirent directory.body is in
+    passes _ (one_or_none (unfounded tree (name, dirent)) (omega (arith, none, sum)))
 
 module _ (tree : Tree) (lacks : ℕ → ℕ) (good : Lacking tree lacks) (at : ℕ) (directory : Node)
-    (stands : node_at tree at ≡ Some directory) (name : List ℕ) (entry : DirectoryEntry)
-    (entry_is : entry_at directory.body name ≡ Some entry) (file : Node)
-    (file_stands : node_at tree entry.number ≡ Some file) (whole : lacks entry.number ≡ 0) where
+    (stands : node_at tree at ≡ Some directory) (name : List ℕ) (dirent : DirentValue)
+    (dirent_is : dirent_at directory.body name ≡ Some dirent) (file : Node)
+    (file_stands : node_at tree dirent.number ≡ Some file) (whole : lacks dirent.number ≡ 0) where
   -- the directory names the file
-  names_it : 1 ≤ names_in entry.number directory.body
+  names_it : 1 ≤ names_in dirent.number directory.body
   names_it =
-      let sum = count_departed (λ e. nat_eq e.1.number entry.number) name entry directory.body entry_is in
-      let one = one_of_itself entry.number in
+      let sum = count_departed (λ e. nat_eq e.1.number dirent.number) name dirent directory.body dirent_is in
+      let one = one_of_itself dirent.number in
       omega (arith, sum, one)
 
   -- what names a directory is its parent
-  pub namer_is_parent : is_directory file.body ≡ true → entry.number ≢ ROOT → parent_of file.body ≡ at
+  pub namer_is_parent : is_directory file.body ≡ true → dirent.number ≢ ROOT → parent_of file.body ≡ at
   namer_is_parent dir other =
-      let child = ((good.files entry.number file file_stands).directory dir).child other in
+      let child = ((good.files dirent.number file file_stands).directory dir).child other in
       elim (equal_or_not (parent_of file.body) at) [
         | inl same ↦ same
         | inr apart ↦
-            let both = two_names tree (parent_of file.body) at entry.number child.parent directory apart
+            let both = two_names tree (parent_of file.body) at dirent.number child.parent directory apart
             child.parent_is stands in
             let one = child.by_parent in
             let once = child.once in
@@ -113,37 +113,37 @@ module _ (tree : Tree) (lacks : ℕ → ℕ) (good : Lacking tree lacks) (at : �
             absurd (omega (arith, both, one, once, mine, whole))
       ]
 
-  pub not_root : entry.number ≢ ROOT
+  pub not_root : dirent.number ≢ ROOT
   not_root same =
       let is_root : Some file ≡ Some good.root = sym file_stands ∙ ap (node_at tree) same ∙ good.root_is in
       let file_is : file ≡ good.root = cc in
       let dir = ap (λ n. is_directory n.body) file_is ∙ good.root_directory in
-      let none = (((good.files entry.number file file_stands).directory dir).root same).unnamed in
+      let none = (((good.files dirent.number file file_stands).directory dir).root same).unnamed in
       let mine = names_it in
-      let all = names_in_of tree at entry.number directory stands in
+      let all = names_in_of tree at dirent.number directory stands in
       let names = ap (names_of tree) same in
       omega (arith, none, mine, all, names)
 
-  stays_itself : (steps : ℕ) → parent_in (node_at tree entry.number) ≡ entry.number
-      → ancestor tree steps entry.number ≡ entry.number
+  stays_itself : (steps : ℕ) → parent_in (node_at tree dirent.number) ≡ dirent.number
+      → ancestor tree steps dirent.number ≡ dirent.number
   stays_itself zero own = refl
   stays_itself (suc steps) own = ap (ancestor tree steps) own ∙ stays_itself steps own
 
-  comes_to_root : Reached tree entry.number → parent_in (node_at tree entry.number) ≡ entry.number
-      → entry.number ≡ ROOT
+  comes_to_root : Reached tree dirent.number → parent_in (node_at tree dirent.number) ≡ dirent.number
+      → dirent.number ≡ ROOT
   comes_to_root to own = sym (stays_itself to.0 own) ∙ to.1
 
   -- no directory names itself
-  pub not_in_itself : entry.number ≢ at
+  pub not_in_itself : dirent.number ≢ at
   not_in_itself same =
       let one : Some file ≡ Some directory = sym file_stands ∙ ap (node_at tree) same ∙ stands in
       let file_is : file ≡ directory = cc in
       let dir : is_directory file.body ≡ true =
-      ap (λ n. is_directory n.body) file_is ∙ named_in directory.body name entry entry_is in
-      let parent : parent_of file.body ≡ entry.number = namer_is_parent dir not_root ∙ sym same in
-      let own : parent_in (node_at tree entry.number) ≡ entry.number =
+      ap (λ n. is_directory n.body) file_is ∙ named_in directory.body name dirent dirent_is in
+      let parent : parent_of file.body ≡ dirent.number = namer_is_parent dir not_root ∙ sym same in
+      let own : parent_in (node_at tree dirent.number) ≡ dirent.number =
       ◌∙◌ {b = parent_of file.body} (ap parent_in file_stands) parent in
-      not_root (comes_to_root ((good.files entry.number file file_stands).directory dir).reached own)
+      not_root (comes_to_root ((good.files dirent.number file file_stands).directory dir).reached own)
 
   module _ (moment : Moment) (now : SoundTime moment) where
     abbrev less : Node
@@ -152,35 +152,35 @@ module _ (tree : Tree) (lacks : ℕ → ℕ) (good : Lacking tree lacks) (at : �
     fewer_children : child_directories tree less.body + parent_links file.body
         ≡ child_directories tree directory.body
     fewer_children =
-        let sum = count_departed (λ e. is_directory_at (node_at tree e.1.number)) name entry directory.body
-        entry_is in
-        let kind : parent_links file.body ≡ cond (is_directory_at (node_at tree entry.number)) 1 0 =
+        let sum = count_departed (λ e. is_directory_at (node_at tree e.1.number)) name dirent directory.body
+        dirent_is in
+        let kind : parent_links file.body ≡ cond (is_directory_at (node_at tree dirent.number)) 1 0 =
         ap (λ o. cond (is_directory_at o) 1 0) (sym file_stands) in
         omega (arith, sum, kind)
 
     was_directory : is_directory directory.body ≡ true
-    was_directory = named_in directory.body name entry entry_is
+    was_directory = named_in directory.body name dirent dirent_is
 
     only_child : (q : ℕ) (node : Node) → node_at tree q ≡ Some node → is_directory node.body ≡ true → q ≢ ROOT
-        → parent_of node.body ≢ at → one_less lacks entry.number q ≡ lacks q
+        → parent_of node.body ≢ at → one_less lacks dirent.number q ≡ lacks q
     only_child q node is dir other apart =
-        elim (equal_or_not q entry.number) [
+        elim (equal_or_not q dirent.number) [
           | inl same ↦
               let one : Some node ≡ Some file = sym is ∙ ap (node_at tree) same ∙ file_stands in
               let node_is : node ≡ file = cc in
               absurd (apart (ap (λ n. parent_of n.body) node_is
               ∙ namer_is_parent (ap (λ n. is_directory n.body) (sym node_is) ∙ dir) not_root))
-          | inr no_other ↦ let none = one_of_other entry.number q no_other in omega (arith, none)
+          | inr no_other ↦ let none = one_of_other dirent.number q no_other in omega (arith, none)
         ]
 
     small_links : parent_links file.body ≤ 1
     small_links = at_most_one (is_directory file.body)
 
     -- A directory loses the name of a file, which lacks it then.
-    pub depart : Lacking (with_node tree at less) (one_less lacks entry.number)
+    pub depart : Lacking (with_node tree at less) (one_less lacks dirent.number)
     depart =
         let mine = good.files at directory stands in
-        reentered tree (with_node tree at less) lacks (one_less lacks entry.number) at directory less
+        reentered tree (with_node tree at less) lacks (one_less lacks dirent.number) at directory less
         (put_change tree at (Some directory) less stands) good (record {
           itself = node_departed moment name file.body directory mine.itself now;
           was_directory = was_directory;
@@ -189,10 +189,10 @@ module _ (tree : Tree) (lacks : ℕ → ℕ) (good : Lacking tree lacks) (at : �
           stamp = refl;
           stand =
               let none = no_unfounded tree (entries_of directory.body) mine.names in
-              let sum = count_departed (unfounded tree) name entry directory.body entry_is in
+              let sum = count_departed (unfounded tree) name dirent directory.body dirent_is in
               all_founded tree (entries_of less.body) (omega (arith, none, sum));
           names = λ q.
-              let sum = count_departed (λ e. nat_eq e.1.number q) name entry directory.body entry_is in
+              let sum = count_departed (λ e. nat_eq e.1.number q) name dirent directory.body dirent_is in
               omega (arith, sum);
           links =
               let children = fewer_children in
@@ -204,41 +204,41 @@ module _ (tree : Tree) (lacks : ℕ → ℕ) (good : Lacking tree lacks) (at : �
 
 module _ (tree : Tree) (lacks after : ℕ → ℕ) (good : Lacking tree lacks) (at : ℕ) (directory : Node)
     (stands : node_at tree at ≡ Some directory) (kind : is_directory directory.body ≡ true) (name : List ℕ)
-    (entry : DirectoryEntry) (absent : entry_at directory.body name ≡ None) (file : Node)
-    (file_stands : node_at tree entry.number ≡ Some file) (lawful : SoundName name)
-    (slot : entry.slot < SLOTS_PER_BLOCK * MOST_SPAN) (free : FreeSlot directory.body entry.slot)
+    (dirent : DirentValue) (absent : dirent_at directory.body name ≡ None) (file : Node)
+    (file_stands : node_at tree dirent.number ≡ Some file) (lawful : SoundName name)
+    (slot : dirent.slot < SLOTS_PER_BLOCK * MOST_SPAN) (free : FreeSlot directory.body dirent.slot)
     (moment : Moment) (now : SoundTime moment)
     (few : directory.nlink + parent_links file.body ≤ MOST_LINKS)
     (parent : is_directory file.body ≡ true → parent_of file.body ≡ at)
-    (fills : (q : ℕ) → lacks q ≡ one_less after entry.number q) where
+    (fills : (q : ℕ) → lacks q ≡ one_less after dirent.number q) where
   abbrev more : Node
-  more = entered moment name entry file.body directory
+  more = entered moment name dirent file.body directory
 
   more_children : child_directories tree more.body ≡ child_directories tree directory.body + parent_links
       file.body
   more_children =
-      let sum = count_entered (λ e. is_directory_at (node_at tree e.1.number)) name entry directory.body kind
+      let sum = count_entered (λ e. is_directory_at (node_at tree e.1.number)) name dirent directory.body kind
       absent in
-      let links : parent_links file.body ≡ cond (is_directory_at (node_at tree entry.number)) 1 0 =
+      let links : parent_links file.body ≡ cond (is_directory_at (node_at tree dirent.number)) 1 0 =
       ap (λ o. cond (is_directory_at o) 1 0) (sym file_stands) in
       omega (arith, sum, links)
 
   filled_child : (q : ℕ) (node : Node) → node_at tree q ≡ Some node → is_directory node.body ≡ true → q ≢ ROOT
       → parent_of node.body ≢ at → after q ≡ lacks q
   filled_child q node is dir other apart =
-      elim (equal_or_not q entry.number) [
+      elim (equal_or_not q dirent.number) [
         | inl same ↦
             let one : Some node ≡ Some file = sym is ∙ ap (node_at tree) same ∙ file_stands in
             let node_is : node ≡ file = cc in
             absurd (apart (ap (λ n. parent_of n.body) node_is
             ∙ parent (ap (λ n. is_directory n.body) (sym node_is) ∙ dir)))
         | inr no_other ↦
-            let none = one_of_other entry.number q no_other in
+            let none = one_of_other dirent.number q no_other in
             let filled = fills q in
             omega (arith, none, filled)
       ]
 
-  is_founded : ◌≡◌ {A = ℕ} (cond (unfounded tree (name, entry)) 1 0) 0
+  is_founded : ◌≡◌ {A = ℕ} (cond (unfounded tree (name, dirent)) 1 0) 0
   unfolding unfounded
   is_founded = ap (λ o. cond (not (is_some o)) 1 0) file_stands
 
@@ -248,18 +248,18 @@ module _ (tree : Tree) (lacks after : ℕ → ℕ) (good : Lacking tree lacks) (
       let mine = good.files at directory stands in
       reentered tree (with_node tree at more) lacks after at directory more
       (put_change tree at (Some directory) more stands) good (record {
-        itself = node_entered moment name entry file.body directory mine.itself now lawful slot free few;
+        itself = node_entered moment name dirent file.body directory mine.itself now lawful slot free few;
         was_directory = kind;
-        directory = same_kind_entered name entry directory.body ∙ kind;
-        parent = same_parent_entered name entry directory.body;
+        directory = same_kind_entered name dirent directory.body ∙ kind;
+        parent = same_parent_entered name dirent directory.body;
         stamp = refl;
         stand =
             let none = no_unfounded tree (entries_of directory.body) mine.names in
-            let sum = count_entered (unfounded tree) name entry directory.body kind absent in
+            let sum = count_entered (unfounded tree) name dirent directory.body kind absent in
             let founded = is_founded in
             all_founded tree (entries_of more.body) (omega (arith, none, sum, founded));
         names = λ q.
-            let sum = count_entered (λ e. nat_eq e.1.number q) name entry directory.body kind absent in
+            let sum = count_entered (λ e. nat_eq e.1.number q) name dirent directory.body kind absent in
             let filled = fills q in
             omega (arith, sum, filled);
         links = let children = more_children in omega (arith, children);
@@ -280,7 +280,7 @@ pub record Unnamed (tree next : Tree) (after : ℕ → ℕ) (number : ℕ) : Typ
   pub tree_is : Lacking next after
   pub there : (q : ℕ) → q ≢ number → node_at next q ≡ node_at tree q
   pub ancestors : (steps q : ℕ) → q ≢ number → ancestor next steps q ≡ ancestor tree steps q
-  pub room : used next ≤ used tree
+  pub has_space : used next ≤ used tree
 
 module _ (tree : Tree) (lacks after : ℕ → ℕ) (good : Lacking tree lacks) (number : ℕ) (file : Node)
     (stands : node_at tree number ≡ Some file) (lacks_one : lacks number ≡ 1) (whole : after number ≡ 0)
@@ -348,7 +348,7 @@ module _ (tree : Tree) (lacks after : ℕ → ℕ) (good : Lacking tree lacks) (
               others = others;
               orphans = orphans;
             })) mine.least;
-        room = let sum = change.sums (λ entry. cost entry.1.body) in omega (arith, sum);
+        has_space = let sum = change.sums (λ dirent. cost dirent.1.body) in omega (arith, sum);
       }
 
   fewer_tree : is_last_name file ≡ false → Unnamed tree (with_node tree number fewer) after number
@@ -387,7 +387,7 @@ module _ (tree : Tree) (lacks after : ℕ → ℕ) (good : Lacking tree lacks) (
         ancestors = λ steps q apart. keeping.ancestors tree
             (with_node tree number fewer) lacks after number file
             fewer change good refl refl steps q;
-        room = let sum = change.sums (λ entry. cost entry.1.body) in omega (arith, sum);
+        has_space = let sum = change.sums (λ dirent. cost dirent.1.body) in omega (arith, sum);
       }
 
   unnamed_by : (last : Bool) → is_last_name file ≡ last

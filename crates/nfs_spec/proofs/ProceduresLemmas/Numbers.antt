@@ -34,9 +34,9 @@ module _ (tree : Tree) where
   found_at : (bound : ℕ) (at : Option Node) → node_at tree bound ≡ at → 0 < bound
       → bound < tree.geometry.inodes → AreUsed bound → (NewNumber tree → NewNumber tree)
       → (AreUsed (suc bound) → NewNumber tree) → NewNumber tree
-  found_at bound None is least most used stop go_on =
-      stop (record { new = Some bound; is = record { least = least; most = most; free = is } })
-  found_at bound (Some node) is least most used stop go_on = go_on (one_more bound node used is)
+  found_at bound None is least most used bound_reached go_on =
+      bound_reached (record { new = Some bound; is = record { least = least; most = most; free = is } })
+  found_at bound (Some node) is least most used bound_reached go_on = go_on (one_more bound node used is)
 
   -- all below the bound are used; so many more numbers are left
   from : (left bound : ℕ) → 0 < bound → left + bound ≡ tree.geometry.inodes → AreUsed bound → NewNumber tree

@@ -118,9 +118,9 @@ at_before offset at bytes below =
     ]
 
 -- the bytes before what is written stay
-pub kept_before : (offset at : ℕ) (text bytes : List ℕ) → at < offset
+pub preserved_before : (offset at : ℕ) (text bytes : List ℕ) → at < offset
     → get_or (overwritten offset text bytes) at 0 ≡ get_or bytes at 0
-kept_before offset at text bytes below =
+preserved_before offset at text bytes below =
     let short = length_before offset bytes in
     let first = length_first offset text bytes in
     ap (λ xs. get_or xs at 0) (pieces offset text bytes)
@@ -141,9 +141,9 @@ written_at offset at text bytes above below =
     ∙ get_or-append_right (before offset bytes) text offset at 0 short above
 
 -- the bytes behind it stay
-pub kept_behind : (offset at : ℕ) (text bytes : List ℕ) → offset + length text ≤ at
+pub preserved_behind : (offset at : ℕ) (text bytes : List ℕ) → offset + length text ≤ at
     → get_or (overwritten offset text bytes) at 0 ≡ get_or bytes at 0
-kept_behind offset at text bytes above =
+preserved_behind offset at text bytes above =
     let there : offset + length text + (at - (offset + length text)) ≡ at = omega (arith, above) in
     ap (λ xs. get_or xs at 0) (pieces offset text bytes)
     ∙ get_or-append_right (before offset bytes ++ text) (drop (offset + length text) bytes)
@@ -161,10 +161,10 @@ module _ (offset : ℕ) (text bytes : List ℕ) (mapped : FinSet nat_cmp) (some 
   each_byte : AreBytes (overwritten offset text bytes)
   each_byte at =
       elim (cases_lt at offset) [
-        | inl below ↦ small _ _ (kept_before offset at text bytes below) (good.each at)
+        | inl below ↦ small _ _ (preserved_before offset at text bytes below) (good.each at)
         | inr above ↦ elim (cases_lt at (offset + length text)) [
           | inl inside ↦ small _ _ (written_at offset at text bytes above inside) (are_bytes (at - offset))
-          | inr behind ↦ small _ _ (kept_behind offset at text bytes behind) (good.each at)
+          | inr behind ↦ small _ _ (preserved_behind offset at text bytes behind) (good.each at)
         ]
       ]
 
@@ -193,10 +193,10 @@ module _ (offset : ℕ) (text bytes : List ℕ) (mapped : FinSet nat_cmp) (some 
     zeros = λ at free.
         let out = mapped_out indexes_count first_index (at / BLOCK_BYTES) mapped free in
         elim (cases_lt at offset) [
-          | inl below ↦ kept_before offset at text bytes below ∙ good.zeros at out.0
+          | inl below ↦ preserved_before offset at text bytes below ∙ good.zeros at out.0
           | inr above ↦ elim (cases_lt at (offset + length text)) [
             | inl inside ↦ let in_it = touched_index at above inside in absurd (out.1 in_it.0 in_it.1)
-            | inr behind ↦ kept_behind offset at text bytes behind ∙ good.zeros at out.0
+            | inr behind ↦ preserved_behind offset at text bytes behind ∙ good.zeros at out.0
           ]
         ];
   }

@@ -11,7 +11,7 @@ use Rattle.nfs_spec.specs.Model.Names.{is_directory}
 use Rattle.nfs_spec.specs.Model.Node.{Node}
 use Rattle.nfs_spec.specs.Model.Sound.{Sound}
 use Rattle.nfs_spec.specs.Model.Tree.{Tree, free, node_at, with_node}
-use Rattle.nfs_spec.proofs.ProceduresLemmas.Deeds.{named_is}
+use Rattle.nfs_spec.proofs.ProceduresLemmas.TreeChanges.{named_is}
 use Rattle.nfs_spec.proofs.ProceduresLemmas.Lacking.{gone_change, none_lacks, of_sound, put_change}
 use Rattle.nfs_spec.proofs.ProceduresLemmas.Naming.{not_in_itself}
 use Rattle.nfs_spec.proofs.ProceduresLemmas.Soundness.{changed_is, same_cost}
@@ -19,7 +19,7 @@ use Rattle.nfs_spec.proofs.ProceduresLemmas.Written.{acted, unless_ok}
 use Rattle.nfs_spec.specs.Procedures.Changes.{departed, is_last_name, unnamed, without_name, without_node}
 use Rattle.nfs_spec.specs.Procedures.Places.{named_file}
 use Rattle.nfs_spec.specs.Procedures.Remove.{RemoveStep, remove, remove_refusal}
-use Rattle.nfs_spec.specs.Procedures.Told.{Effect}
+use Rattle.nfs_spec.specs.Procedures.StepForms.{Effect}
 
 module _ (tree : Tree) (good : Sound tree) (at : ℕ) (directory : Node)
     (stands : node_at tree at ≡ Some directory) (name : List ℕ) (file : ℕ × Node)
@@ -42,8 +42,8 @@ module _ (tree : Tree) (good : Sound tree) (at : ℕ) (directory : Node)
   apart : file.0 ≡ at → ⊥
   apart same =
       let named = named_is tree directory name file found in
-      not_in_itself tree none_lacks (of_sound tree good) at directory stands name named.entry
-      named.entry_is file.1
+      not_in_itself tree none_lacks (of_sound tree good) at directory stands name named.dirent
+      named.dirent_is file.1
       (ap (node_at tree) named.number_is ∙ named.stands) refl (named.number_is ∙ same)
 
   in_left : node_at left file.0 ≡ Some file.1
@@ -59,11 +59,11 @@ module _ (tree : Tree) (good : Sound tree) (at : ℕ) (directory : Node)
   blocks_freed =
       let first =
       (put_change tree at (Some directory) (departed ctx.moment name file.1.body directory) stands).sums
-      (λ entry. cost entry.1.body) in
-      let second = (gone_change left file.0 (Some file.1) in_left).sums (λ entry. cost entry.1.body) in
+      (λ dirent. cost dirent.1.body) in
+      let second = (gone_change left file.0 (Some file.1) in_left).sums (λ dirent. cost dirent.1.body) in
       let same = same_cost name directory.body in
-      let room = good.room in
-      omega (arith, first, second, same, room)
+      let has_space = good.has_space in
+      omega (arith, first, second, same, has_space)
 
 last_one : (node : Node) → node.nlink ≡ 1 → is_last_name node ≡ true
 last_one node one = by (is_directory node.body) (small node.nlink one)
@@ -76,13 +76,13 @@ last_one node one = by (is_directory node.body) (small node.nlink one)
     by false e = e
 
 -- After an OK REMOVE of the last name of a file.
-pub removed_last : (tree next : Tree) (ctx : Ctx) (handle name : List ℕ) (told : WeakCacheData)
+pub removed_last : (tree next : Tree) (ctx : Ctx) (handle name : List ℕ) (file_attributes : WeakCacheData)
     (directory file : ℕ × Node) → Sound tree → find_file tree handle ≡ Ok directory
     → named_file tree directory.1 name ≡ Some file → file.1.nlink ≡ 1
-    → RemoveStep tree ctx handle name (Ok tt) told next
+    → RemoveStep tree ctx handle name (Ok tt) file_attributes next
     → (node_at next file.0 ≡ None) × (free next ≡ free tree + cost file.1.body)
-removed_last tree next ctx handle name told directory file good directory_is found one s =
-    let done = acted tree next handle (remove tree ctx name) tt told s in
+removed_last tree next ctx handle name file_attributes directory file good directory_is found one s =
+    let done = acted tree next handle (remove tree ctx name) tt file_attributes s in
     let same : Ok done.found ≡ Ok directory = sym done.found_is ∙ directory_is in
     let directory_same : done.found ≡ directory = cc in
     let effect : ℕ × Node → Effect (Unit {0}) = λ d. record {

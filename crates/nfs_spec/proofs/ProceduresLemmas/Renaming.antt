@@ -13,16 +13,16 @@ use Rattle.base.specs.declared.TheConstants.{MOST_LINKS, MOST_SPAN, ROOT, SLOTS_
 use Rattle.nfs_types.specs.declared.ctx.Ctx.{Ctx}
 use Rattle.nfs_types.specs.declared.verifier.Verifier.{Verifier}
 use Rattle.nfs_spec.specs.Model.Names.{ancestor, entries_of, is_directory, parent_of}
-use Rattle.nfs_spec.specs.Model.Node.{Node, Body, DirectoryEntry, Regular, Directory, Link}
+use Rattle.nfs_spec.specs.Model.Node.{Node, Body, DirentValue, Regular, Directory, Link}
 use Rattle.nfs_spec.specs.Model.SetAttr.{given}
 use Rattle.nfs_spec.specs.Model.Sound.{Sound, SoundBody, SoundCtx, SoundNode, SoundVerifier}
 use Rattle.nfs_spec.specs.Model.Tree.{Tree, node_at, with_node}
 use Rattle.nfs_spec.proofs.ProceduresLemmas.Tests.{differs, equal, unequal, yes_or_no}
 use Rattle.nfs_spec.proofs.ProceduresLemmas.Adding.{names_in_of}
-use Rattle.nfs_spec.proofs.ProceduresLemmas.Deeds.{NamedBy, Renames, named_is, passed}
-use Rattle.nfs_spec.proofs.ProceduresLemmas.Entering.{FreeSlot, count_departed, entry_before, least_is_free, named_in}
-use Rattle.nfs_spec.proofs.ProceduresLemmas.Entering.{names_apart}
-use Rattle.nfs_spec.proofs.ProceduresLemmas.Entering.{same_kind_departed, same_parent_departed, sound_name}
+use Rattle.nfs_spec.proofs.ProceduresLemmas.TreeChanges.{NamedBy, Renames, named_is, passed}
+use Rattle.nfs_spec.proofs.ProceduresLemmas.NameChanges.{FreeSlot, count_departed, dirent_before, least_is_free, named_in}
+use Rattle.nfs_spec.proofs.ProceduresLemmas.NameChanges.{names_apart}
+use Rattle.nfs_spec.proofs.ProceduresLemmas.NameChanges.{same_kind_departed, same_parent_departed, sound_name}
 use Rattle.nfs_spec.proofs.ProceduresLemmas.Keeping as keeping
 use Rattle.nfs_spec.proofs.ProceduresLemmas.Keeping.{moved_tree, reshaped}
 use Rattle.nfs_spec.proofs.ProceduresLemmas.Lacking.{Change, Lacking, equal_or_not, none_lacks, of_sound, put_change}
@@ -31,63 +31,63 @@ use Rattle.nfs_spec.proofs.ProceduresLemmas.Naming.{Unnamed, depart, enter, name
 use Rattle.nfs_spec.proofs.ProceduresLemmas.Naming.{one_less}
 use Rattle.nfs_spec.proofs.ProceduresLemmas.Naming.{one_of_itself, one_of_other, unname}
 use Rattle.nfs_spec.proofs.ProceduresLemmas.Parts.{one_key}
-use Rattle.nfs_spec.proofs.ProceduresLemmas.Room.{room_after}
-use Rattle.nfs_spec.proofs.ProceduresLemmas.Soundness.{changed_is, few_links, links_of_directory, no_entry, parent_links_is}
+use Rattle.nfs_spec.proofs.ProceduresLemmas.UsedWithin.{space_after}
+use Rattle.nfs_spec.proofs.ProceduresLemmas.Soundness.{changed_is, few_links, links_of_directory, no_dirent, parent_links_is}
 use Rattle.nfs_spec.proofs.ProceduresLemmas.Soundness.{same_geometry, with_two}
 use Rattle.nfs_spec.proofs.ProceduresLemmas.Within.{never_reached}
-use Rattle.nfs_spec.specs.Procedures.Changes.{changed_at, departed, entered, lacks_room, parent_links, unnamed}
-use Rattle.nfs_spec.specs.Procedures.Changes.{with_entry}
-use Rattle.nfs_spec.specs.Procedures.Changes.{without_entry, without_name}
+use Rattle.nfs_spec.specs.Procedures.Changes.{changed_at, departed, entered, lacks_space, parent_links, unnamed}
+use Rattle.nfs_spec.specs.Procedures.Changes.{with_dirent}
+use Rattle.nfs_spec.specs.Procedures.Changes.{without_dirent, without_name}
 use Rattle.nfs_spec.specs.Procedures.MkDir.{is_full}
-use Rattle.nfs_spec.specs.Procedures.Places.{entry_at}
-use Rattle.nfs_spec.specs.Procedures.Rename.{Place, file_in, goes_below_itself, has_no_link, is_other_sort}
+use Rattle.nfs_spec.specs.Procedures.Places.{dirent_at}
+use Rattle.nfs_spec.specs.Procedures.Rename.{Dentry, file_in, goes_below_itself, has_no_link, is_other_sort}
 use Rattle.nfs_spec.specs.Procedures.Rename.{is_within, moved}
 use Rattle.nfs_spec.specs.Procedures.Rename.{slot_for, with_parent}
 use Rattle.nfs_spec.specs.Procedures.RmDir.{has_names, is_found_filled}
 
 -- Directories by their entries.
 
-pub body_slots : (body : Body) (name : List ℕ) (entry : DirectoryEntry) → SoundBody body
-    → entry_at body name ≡ Some entry → entry.slot < SLOTS_PER_BLOCK * MOST_SPAN
-body_slots (Regular bytes mapped) name entry good is = cc
-body_slots (Directory named span parent) name entry good is =
-    let below = good.slots name entry is in let blocks = good.blocks in omega (arith, below, blocks)
-body_slots (Link target) name entry good is = cc
+pub body_slots : (body : Body) (name : List ℕ) (dirent : DirentValue) → SoundBody body
+    → dirent_at body name ≡ Some dirent → dirent.slot < SLOTS_PER_BLOCK * MOST_SPAN
+body_slots (Regular bytes mapped) name dirent good is = cc
+body_slots (Directory named span parent) name dirent good is =
+    let below = good.slots name dirent is in let blocks = good.blocks in omega (arith, below, blocks)
+body_slots (Link target) name dirent good is = cc
 
-pub body_distinct : (body : Body) (one other : List ℕ) (a b : DirectoryEntry) → SoundBody body
-    → entry_at body one ≡ Some a → entry_at body other ≡ Some b → a.slot ≡ b.slot → one ≡ other
+pub body_distinct : (body : Body) (one other : List ℕ) (a b : DirentValue) → SoundBody body
+    → dirent_at body one ≡ Some a → dirent_at body other ≡ Some b → a.slot ≡ b.slot → one ≡ other
 body_distinct (Regular bytes mapped) one other a b good is has same = cc
 body_distinct (Directory named span parent) one other a b good is has same =
     good.distinct one other a b is has same
 body_distinct (Link target) one other a b good is has same = cc
 
-absent_by : (b : Bool) (o : Option DirectoryEntry) → b ≡ true → cond b None o ≡ None
+absent_by : (b : Bool) (o : Option DirentValue) → b ≡ true → cond b None o ≡ None
 absent_by true o e = refl
 absent_by false o e = cc
 
-kept_by : (b : Bool) (o : Option DirectoryEntry) → b ≡ false → cond b None o ≡ o
-kept_by true o e = cc
-kept_by false o e = refl
+preserved_by : (b : Bool) (o : Option DirentValue) → b ≡ false → cond b None o ≡ o
+preserved_by true o e = cc
+preserved_by false o e = refl
 
-pub entry_gone : (name : List ℕ) (body : Body) → entry_at (without_entry name body) name ≡ None
-entry_gone name (Regular bytes mapped) = refl
-entry_gone name (Directory named span parent) =
+pub dirent_gone : (name : List ℕ) (body : Body) → dirent_at (without_dirent name body) name ≡ None
+dirent_gone name (Regular bytes mapped) = refl
+dirent_gone name (Directory named span parent) =
     get-remove nat_list_cmp_total named name name
     ∙ absent_by _ (get named name) (ap is_eq (tied_itself nat_list_cmp_total name))
-entry_gone name (Link target) = refl
+dirent_gone name (Link target) = refl
 
 -- another name leads where it led
-entry_kept : (name other : List ℕ) (body : Body) → other ≢ name
-    → entry_at (without_entry name body) other ≡ entry_at body other
-entry_kept name other (Regular bytes mapped) apart = refl
-entry_kept name other (Directory named span parent) apart =
+dirent_preserved : (name other : List ℕ) (body : Body) → other ≢ name
+    → dirent_at (without_dirent name body) other ≡ dirent_at body other
+dirent_preserved name other (Regular bytes mapped) apart = refl
+dirent_preserved name other (Directory named span parent) apart =
     get-remove nat_list_cmp_total named name other
-    ∙ kept_by _ (get named other) (not_tied (eq_by_cmp (slice_cmp nat_cmp) other name) refl)
+    ∙ preserved_by _ (get named other) (not_tied (eq_by_cmp (slice_cmp nat_cmp) other name) refl)
   where
     not_tied : (b : Bool) → eq_by_cmp (slice_cmp nat_cmp) other name ≡ b → b ≡ false
     not_tied true e = absurd (apart (one_key names_apart other name e))
     not_tied false e = refl
-entry_kept name other (Link target) apart = refl
+dirent_preserved name other (Link target) apart = refl
 
 -- Files in their new places.
 
@@ -140,10 +140,10 @@ not_full directory few = small directory.nlink few
     small n h = grind (arith, nat_tests, h)
 
 -- a directory with an entry has names in it
-filled : (body : Body) (name : List ℕ) (entry : DirectoryEntry) → entry_at body name ≡ Some entry
+filled : (body : Body) (name : List ℕ) (dirent : DirentValue) → dirent_at body name ≡ Some dirent
     → has_names body ≡ false → ⊥
-filled body name entry is none =
-    let sum = count_departed (λ e. true) name entry body is in
+filled body name dirent is none =
+    let sum = count_departed (λ e. true) name dirent body is in
     let most = count_by-le-length (λ e. true) (entries_of body) in
     let empty = not_some (length (entries_of body)) none in
     omega (arith, sum, most, empty)
@@ -164,10 +164,10 @@ same_sort node other = by (is_directory node.body) (is_directory other.body)
 
 module _ (tree : Tree) (ctx : Ctx) (fits : Type 0) (next : Tree) (good : Sound tree) (now : SoundCtx ctx)
     (f : fits) (d : Renames tree ctx fits next) where
-  abbrev source : Place
+  abbrev source : Dentry
   source = d.source
 
-  abbrev target : Place
+  abbrev target : Dentry
   target = d.target
 
   abbrev number : ℕ
@@ -182,7 +182,7 @@ module _ (tree : Tree) (ctx : Ctx) (fits : Type 0) (next : Tree) (good : Sound t
   named : NamedBy tree source.directory.body source.name d.file
   named = named_is tree source.directory source.name d.file d.found
 
-  named_there : node_at tree named.entry.number ≡ Some node
+  named_there : node_at tree named.dirent.number ≡ Some node
   named_there = ap (node_at tree) named.number_is ∙ named.stands
 
   abbrev less : Node
@@ -197,24 +197,24 @@ module _ (tree : Tree) (ctx : Ctx) (fits : Type 0) (next : Tree) (good : Sound t
   left_lacks : Lacking left lacking
   left_lacks =
       subst (λ n. Lacking left (one_less none_lacks n)) named.number_is
-      (depart tree none_lacks base source.number source.directory d.source_stands source.name named.entry
-      named.entry_is node named_there refl ctx.moment now.moment)
+      (depart tree none_lacks base source.number source.directory d.source_stands source.name named.dirent
+      named.dirent_is node named_there refl ctx.moment now.moment)
 
   apart_source : number ≢ source.number
   apart_source same =
-      not_in_itself tree none_lacks base source.number source.directory d.source_stands source.name named.entry
-      named.entry_is node named_there refl (named.number_is ∙ same)
+      not_in_itself tree none_lacks base source.number source.directory d.source_stands source.name named.dirent
+      named.dirent_is node named_there refl (named.number_is ∙ same)
 
   no_root : number ≢ ROOT
   no_root same =
-      not_root tree none_lacks base source.number source.directory d.source_stands source.name named.entry
-      named.entry_is node named_there refl (named.number_is ∙ same)
+      not_root tree none_lacks base source.number source.directory d.source_stands source.name named.dirent
+      named.dirent_is node named_there refl (named.number_is ∙ same)
 
   parent_is_source : is_directory node.body ≡ true → parent_of node.body ≡ source.number
   parent_is_source dir =
       namer_is_parent tree none_lacks base source.number source.directory d.source_stands source.name
-      named.entry
-      named.entry_is node named_there refl dir (λ same. no_root (sym named.number_is ∙ same))
+      named.dirent
+      named.dirent_is node named_there refl dir (λ same. no_root (sym named.number_is ∙ same))
 
   below_test : goes_below_itself tree (number, node) target.number ≡ false
   below_test = (passed (goes_below_itself tree (number, node) target.number) _ _ d.tested).0
@@ -265,11 +265,11 @@ module _ (tree : Tree) (ctx : Ctx) (fits : Type 0) (next : Tree) (good : Sound t
     directory : Node
     is : node_at left target.number ≡ Some directory
     kind : is_directory directory.body ≡ true
-    before : (name : List ℕ) (entry : DirectoryEntry) → entry_at directory.body name ≡ Some entry
-        → entry_at target.directory.body name ≡ Some entry
-    old_gone : target.number ≡ source.number → entry_at directory.body source.name ≡ None
-    kept : (entry : DirectoryEntry) → entry_at target.directory.body target.name ≡ Some entry
-        → entry.number ≢ number → entry_at directory.body target.name ≡ Some entry
+    before : (name : List ℕ) (dirent : DirentValue) → dirent_at directory.body name ≡ Some dirent
+        → dirent_at target.directory.body name ≡ Some dirent
+    old_gone : target.number ≡ source.number → dirent_at directory.body source.name ≡ None
+    kept : (dirent : DirentValue) → dirent_at target.directory.body target.name ≡ Some dirent
+        → dirent.number ≢ number → dirent_at directory.body target.name ≡ Some dirent
     few : target.number ≡ source.number → 1 ≤ parent_links node.body → directory.nlink + 1 ≤ MOST_LINKS
     same_links : target.number ≢ source.number → directory ≡ target.directory
 
@@ -284,21 +284,21 @@ module _ (tree : Tree) (ctx : Ctx) (fits : Type 0) (next : Tree) (good : Sound t
       let one : Some target.directory ≡ Some source.directory =
       sym d.target_stands ∙ ap (node_at tree) same ∙ d.source_stands in
       let directory_is : target.directory ≡ source.directory = cc in
-      let at : (name : List ℕ) → entry_at target.directory.body name ≡ entry_at source.directory.body name =
-      λ name. ap (λ n. entry_at n.body name) directory_is in
+      let at : (name : List ℕ) → dirent_at target.directory.body name ≡ dirent_at source.directory.body name =
+      λ name. ap (λ n. dirent_at n.body name) directory_is in
       record {
         directory = less;
         is = ap (node_at left) same ∙ put_left.here;
         kind = same_kind_departed source.name source.directory.body
             ∙ ap (λ n. is_directory n.body) (sym directory_is) ∙ d.placed.directory_is;
-        before = λ name entry is. at name ∙ entry_before source.name name source.directory.body entry is;
-        old_gone = λ _. entry_gone source.name source.directory.body;
-        kept = λ entry is other.
-            entry_kept source.name target.name source.directory.body (λ same_name.
-            let both : Some entry ≡ Some named.entry =
-            sym is ∙ at target.name ∙ ap (entry_at source.directory.body) same_name ∙ named.entry_is in
-            let entry_is : entry ≡ named.entry = cc in
-            other (ap (λ e. e.number) entry_is ∙ named.number_is))
+        before = λ name dirent is. at name ∙ dirent_before source.name name source.directory.body dirent is;
+        old_gone = λ _. dirent_gone source.name source.directory.body;
+        kept = λ dirent is other.
+            dirent_preserved source.name target.name source.directory.body (λ same_name.
+            let both : Some dirent ≡ Some named.dirent =
+            sym is ∙ at target.name ∙ ap (dirent_at source.directory.body) same_name ∙ named.dirent_is in
+            let dirent_is : dirent ≡ named.dirent = cc in
+            other (ap (λ e. e.number) dirent_is ∙ named.number_is))
             ∙ sym (at target.name) ∙ is;
         few = λ _ one_link. few_by one_link;
         same_links = λ apart. absurd (apart same);
@@ -309,9 +309,9 @@ module _ (tree : Tree) (ctx : Ctx) (fits : Type 0) (next : Tree) (good : Sound t
     directory = target.directory;
     is = put_left.there target.number apart ∙ d.target_stands;
     kind = d.placed.directory_is;
-    before = λ name entry is. is;
+    before = λ name dirent is. is;
     old_gone = λ same. absurd (apart same);
-    kept = λ entry is other. is;
+    kept = λ dirent is other. is;
     few = λ same. absurd (apart same);
     same_links = λ _. refl;
   }
@@ -331,10 +331,10 @@ module _ (tree : Tree) (ctx : Ctx) (fits : Type 0) (next : Tree) (good : Sound t
     directory : Node
     is : node_at tree_is target.number ≡ Some directory
     kind : is_directory directory.body ≡ true
-    before : (name : List ℕ) (entry : DirectoryEntry) → entry_at directory.body name ≡ Some entry
-        → entry_at target.directory.body name ≡ Some entry
-    old_gone : target.number ≡ source.number → entry_at directory.body source.name ≡ None
-    absent : entry_at directory.body target.name ≡ None
+    before : (name : List ℕ) (dirent : DirentValue) → dirent_at directory.body name ≡ Some dirent
+        → dirent_at target.directory.body name ≡ Some dirent
+    old_gone : target.number ≡ source.number → dirent_at directory.body source.name ≡ None
+    absent : dirent_at directory.body target.name ≡ None
     few : directory.nlink + parent_links node.body ≤ MOST_LINKS
     node_is : node_at tree_is number ≡ Some node
     ancestors : (steps : ℕ) → ancestor tree_is steps target.number ≡ ancestor tree steps target.number
@@ -349,14 +349,14 @@ module _ (tree : Tree) (ctx : Ctx) (fits : Type 0) (next : Tree) (good : Sound t
   node_in_left : node_at left number ≡ Some node
   node_in_left = put_left.there number apart_source ∙ named.stands
 
-  none_at : (body : Body) (name : List ℕ) (o : Option DirectoryEntry) → entry_at body name ≡ o
-      → ((entry : DirectoryEntry) → entry_at body name ≡ Some entry → ⊥) → o ≡ None
+  none_at : (body : Body) (name : List ℕ) (o : Option DirentValue) → dirent_at body name ≡ o
+      → ((dirent : DirentValue) → dirent_at body name ≡ Some dirent → ⊥) → o ≡ None
   none_at body name None is never = refl
-  none_at body name (Some entry) is never = absurd (never entry is)
+  none_at body name (Some dirent) is never = absurd (never dirent is)
 
-  room_for_link : file_in tree target ≡ None → target.number ≢ source.number → is_directory node.body ≡ true
+  space_for_link : file_in tree target ≡ None → target.number ≢ source.number → is_directory node.body ≡ true
       → is_full target.directory ≡ false
-  room_for_link none apart dir =
+  space_for_link none apart dir =
       let test : has_no_link node source.number (target.number, target.directory) None ≡ false =
       ap (has_no_link node source.number (target.number, target.directory)) (sym none) ∙ link_test in
       third (is_directory node.body) (nat_eq source.number target.number) (is_full target.directory) test dir
@@ -370,7 +370,7 @@ module _ (tree : Tree) (ctx : Ctx) (fits : Type 0) (next : Tree) (good : Sound t
       elim (equal_or_not target.number source.number) [
         | inl same ↦ not_full t.directory (t.few same one)
         | inr apart ↦ ap is_full (t.same_links apart)
-            ∙ room_for_link none apart (links_of_directory node.body one)
+            ∙ space_for_link none apart (links_of_directory node.body one)
       ])
 
   -- nothing stands there
@@ -384,10 +384,10 @@ module _ (tree : Tree) (ctx : Ctx) (fits : Type 0) (next : Tree) (good : Sound t
     kind = t.kind;
     before = t.before;
     old_gone = t.old_gone;
-    absent = none_at t.directory.body target.name (entry_at t.directory.body target.name) refl (λ entry is.
-        let there = t.before target.name entry is in
-        let absent = no_entry tree good target.number target.directory d.target_stands target.name none in
-        let never : None ≡ Some entry = sym absent ∙ there in cc);
+    absent = none_at t.directory.body target.name (dirent_at t.directory.body target.name) refl (λ dirent is.
+        let there = t.before target.name dirent is in
+        let absent = no_dirent tree good target.number target.directory d.target_stands target.name none in
+        let never : None ≡ Some dirent = sym absent ∙ there in cc);
     few = few_in_left t none;
     node_is = node_in_left;
     ancestors = λ steps. left_ancestors steps target.number;
@@ -404,7 +404,7 @@ module _ (tree : Tree) (ctx : Ctx) (fits : Type 0) (next : Tree) (good : Sound t
         differs other.0 number (ap (λ o. given o (λ file. nat_eq file.0 number)) (sym there) ∙ d.apart)
 
     abbrev way : ℕ
-    way = in_way.entry.number
+    way = in_way.dirent.number
 
     way_apart : way ≢ number
     way_apart same = other_apart (sym in_way.number_is ∙ same)
@@ -422,12 +422,12 @@ module _ (tree : Tree) (ctx : Ctx) (fits : Type 0) (next : Tree) (good : Sound t
         sym way_stands ∙ ap (node_at tree) same ∙ d.source_stands in
         let is : other.1 ≡ source.directory = cc in
         let dir = ap (λ n. is_directory n.body) is
-        ∙ named_in source.directory.body source.name named.entry named.entry_is in
+        ∙ named_in source.directory.body source.name named.dirent named.dirent_is in
         let none = ap (λ n. has_names n.body) (sym is) ∙ way_empty dir in
-        filled source.directory.body source.name named.entry named.entry_is none
+        filled source.directory.body source.name named.dirent named.dirent_is none
 
-    entry_there : entry_at t.directory.body target.name ≡ Some in_way.entry
-    entry_there = t.kept in_way.entry in_way.entry_is way_apart
+    dirent_there : dirent_at t.directory.body target.name ≡ Some in_way.dirent
+    dirent_there = t.kept in_way.dirent in_way.dirent_is way_apart
 
     way_in_left : node_at left way ≡ Some other.1
     way_in_left = put_left.there way way_not_source ∙ way_stands
@@ -443,14 +443,14 @@ module _ (tree : Tree) (ctx : Ctx) (fits : Type 0) (next : Tree) (good : Sound t
 
     parted_lacks : Lacking parted (one_less lacking way)
     parted_lacks =
-        depart left lacking left_lacks target.number t.directory t.is target.name in_way.entry entry_there
+        depart left lacking left_lacks target.number t.directory t.is target.name in_way.dirent dirent_there
         other.1
         way_in_left whole ctx.moment now.moment
 
     way_not_target : way ≢ target.number
     way_not_target =
-        not_in_itself left lacking left_lacks target.number t.directory t.is target.name in_way.entry
-        entry_there
+        not_in_itself left lacking left_lacks target.number t.directory t.is target.name in_way.dirent
+        dirent_there
         other.1 way_in_left whole
 
     put_parted : Change left parted target.number (Some t.directory) (Some lesser)
@@ -506,11 +506,11 @@ module _ (tree : Tree) (ctx : Ctx) (fits : Type 0) (next : Tree) (good : Sound t
       directory = lesser;
       is = cleared_by.there target.number (λ same. way_not_target (sym same)) ∙ put_parted.here;
       kind = same_kind_departed target.name t.directory.body ∙ t.kind;
-      before = λ name entry is. t.before name entry (entry_before target.name name t.directory.body entry is);
-      old_gone = λ same. none_at lesser.body source.name (entry_at lesser.body source.name) refl (λ entry is.
-          let was = entry_before target.name source.name t.directory.body entry is in
-          let never : None ≡ Some entry = sym (t.old_gone same) ∙ was in cc);
-      absent = entry_gone target.name t.directory.body;
+      before = λ name dirent is. t.before name dirent (dirent_before target.name name t.directory.body dirent is);
+      old_gone = λ same. none_at lesser.body source.name (dirent_at lesser.body source.name) refl (λ dirent is.
+          let was = dirent_before target.name source.name t.directory.body dirent is in
+          let never : None ≡ Some dirent = sym (t.old_gone same) ∙ was in cc);
+      absent = dirent_gone target.name t.directory.body;
       few = few_lesser;
       node_is = cleared_by.there number (λ same. way_apart (sym same)) ∙ node_in_parted;
       ancestors = λ steps. cleared_by.ancestors steps target.number (λ same. way_not_target (sym same))
@@ -528,46 +528,46 @@ module _ (tree : Tree) (ctx : Ctx) (fits : Type 0) (next : Tree) (good : Sound t
   -- The slot of the new name.
 
   record Slot : Type 0 where
-    small : d.entry.slot < SLOTS_PER_BLOCK * MOST_SPAN
-    taken : (name : List ℕ) (entry : DirectoryEntry) → entry_at target.directory.body name ≡ Some entry
-        → entry.slot ≡ d.entry.slot
+    small : d.dirent.slot < SLOTS_PER_BLOCK * MOST_SPAN
+    taken : (name : List ℕ) (dirent : DirentValue) → dirent_at target.directory.body name ≡ Some dirent
+        → dirent.slot ≡ d.dirent.slot
         → (name ≡ target.name) ⊎ ((target.number ≡ source.number) × (name ≡ source.name))
 
-  slot_within : (entry : Option DirectoryEntry) → entry_at source.directory.body source.name ≡ entry
-      → target.number ≡ source.number → option_map (λ e. e.slot) entry ≡ Some d.entry.slot → Slot
+  slot_within : (dirent : Option DirentValue) → dirent_at source.directory.body source.name ≡ dirent
+      → target.number ≡ source.number → option_map (λ e. e.slot) dirent ≡ Some d.dirent.slot → Slot
   slot_within None is same slot = cc
-  slot_within (Some entry) is same slot =
-      let slot_is : entry.slot ≡ d.entry.slot = cc in
+  slot_within (Some dirent) is same slot =
+      let slot_is : dirent.slot ≡ d.dirent.slot = cc in
       let one : Some target.directory ≡ Some source.directory =
       sym d.target_stands ∙ ap (node_at tree) same ∙ d.source_stands in
       let directory_is : target.directory ≡ source.directory = cc in
-      let small = body_slots source.directory.body source.name entry source_sound.body is in
+      let small = body_slots source.directory.body source.name dirent source_sound.body is in
       record {
         small = omega (arith, slot_is, small);
         taken = λ name other has same_slot.
             inr (
               same,
-              body_distinct source.directory.body name source.name other entry source_sound.body
-                  (ap (λ n. entry_at n.body name) (sym directory_is) ∙ has) is (same_slot ∙ sym slot_is),
+              body_distinct source.directory.body name source.name other dirent source_sound.body
+                  (ap (λ n. dirent_at n.body name) (sym directory_is) ∙ has) is (same_slot ∙ sym slot_is),
             );
       }
 
-  slot_by : (within : Bool) (old replaced : Option DirectoryEntry) → nat_eq source.number target.number ≡ within
-      → entry_at source.directory.body source.name ≡ old → entry_at target.directory.body target.name ≡ replaced
-      → slot_for within old replaced target.directory.body ≡ Some d.entry.slot → Slot
-  slot_by within old (Some entry) same is has slot =
-      let slot_is : entry.slot ≡ d.entry.slot = cc in
-      let small = body_slots target.directory.body target.name entry target_sound.body has in
+  slot_by : (within : Bool) (old replaced : Option DirentValue) → nat_eq source.number target.number ≡ within
+      → dirent_at source.directory.body source.name ≡ old → dirent_at target.directory.body target.name ≡ replaced
+      → slot_for within old replaced target.directory.body ≡ Some d.dirent.slot → Slot
+  slot_by within old (Some dirent) same is has slot =
+      let slot_is : dirent.slot ≡ d.dirent.slot = cc in
+      let small = body_slots target.directory.body target.name dirent target_sound.body has in
       record {
         small = omega (arith, slot_is, small);
         taken = λ name other there same_slot.
-            inl (body_distinct target.directory.body name target.name other entry target_sound.body there has
+            inl (body_distinct target.directory.body name target.name other dirent target_sound.body there has
             (same_slot ∙ sym slot_is));
       }
   slot_by true old None same is has slot =
       slot_within old is (sym (equal source.number target.number same)) slot
   slot_by false old None same is has slot =
-      let free = least_is_free target.directory.body d.entry.slot slot in
+      let free = least_is_free target.directory.body d.dirent.slot slot in
       record {
         small = free.1;
         taken = λ name other there same_slot. absurd (free.0 name other there same_slot);
@@ -575,18 +575,18 @@ module _ (tree : Tree) (ctx : Ctx) (fits : Type 0) (next : Tree) (good : Sound t
 
   slot_is : Slot
   slot_is =
-      slot_by (nat_eq source.number target.number) (entry_at source.directory.body source.name)
-      (entry_at target.directory.body target.name) refl refl refl d.slot
+      slot_by (nat_eq source.number target.number) (dirent_at source.directory.body source.name)
+      (dirent_at target.directory.body target.name) refl refl refl d.slot
 
-  free_in : (c : Cleared) → FreeSlot c.directory.body d.entry.slot
-  free_in c name entry is same_slot =
-      elim (slot_is.taken name entry (c.before name entry is) same_slot) [
+  free_in : (c : Cleared) → FreeSlot c.directory.body d.dirent.slot
+  free_in c name dirent is same_slot =
+      elim (slot_is.taken name dirent (c.before name dirent is) same_slot) [
         | inl same_name ↦
-            let there = ap (entry_at c.directory.body) (sym same_name) ∙ is in
-            let never : None ≡ Some entry = sym c.absent ∙ there in cc
+            let there = ap (dirent_at c.directory.body) (sym same_name) ∙ is in
+            let never : None ≡ Some dirent = sym c.absent ∙ there in cc
         | inr within ↦
-            let there = ap (entry_at c.directory.body) (sym within.1) ∙ is in
-            let never : None ≡ Some entry = sym (c.old_gone within.0) ∙ there in cc
+            let there = ap (dirent_at c.directory.body) (sym within.1) ∙ is in
+            let never : None ≡ Some dirent = sym (c.old_gone within.0) ∙ there in cc
       ]
 
   -- The file in its new place.
@@ -665,7 +665,7 @@ module _ (tree : Tree) (ctx : Ctx) (fits : Type 0) (next : Tree) (good : Sound t
         ]
 
     abbrev entered_directory : Node
-    entered_directory = entered ctx.moment target.name d.entry node.body c.directory
+    entered_directory = entered ctx.moment target.name d.dirent node.body c.directory
 
     abbrev last_tree : Tree
     last_tree = with_node placed_tree target.number entered_directory
@@ -674,12 +674,12 @@ module _ (tree : Tree) (ctx : Ctx) (fits : Type 0) (next : Tree) (good : Sound t
     same_links_placed = ap (λ b. cond b 1 0) (same_kind target.number node.body)
 
     -- the new name counts for what moved as for what it was
-    same_entered : entered ctx.moment target.name d.entry placed_node.body c.directory ≡ entered_directory
+    same_entered : entered ctx.moment target.name d.dirent placed_node.body c.directory ≡ entered_directory
     same_entered = λ i. record c.directory {
       nlink = c.directory.nlink + same_links_placed i;
       mtime = ctx.moment;
       ctime = ctx.moment;
-      body = with_entry target.name d.entry c.directory.body;
+      body = with_dirent target.name d.dirent c.directory.body;
     }
 
     last_lacks : Lacking last_tree none_lacks
@@ -688,7 +688,7 @@ module _ (tree : Tree) (ctx : Ctx) (fits : Type 0) (next : Tree) (good : Sound t
         let few = c.few in
         subst (λ n. Lacking (with_node placed_tree target.number n) none_lacks) same_entered
         (enter placed_tree lacking none_lacks placed_lacks target.number c.directory
-        (put_placed.there target.number (λ same. apart_target (sym same)) ∙ c.is) c.kind target.name d.entry
+        (put_placed.there target.number (λ same. apart_target (sym same)) ∙ c.is) c.kind target.name d.dirent
         c.absent placed_node (ap (node_at placed_tree) d.number_is ∙ put_placed.here)
         (sound_name target.directory target.name d.placed (d.name_bounds f)) slot_is.small
         (free_in c) ctx.moment
@@ -697,7 +697,7 @@ module _ (tree : Tree) (ctx : Ctx) (fits : Type 0) (next : Tree) (good : Sound t
         (λ q. ap (λ n. one_less none_lacks n q) (sym d.number_is)))
 
     abbrev change : Node → Node
-    change = entered ctx.moment target.name d.entry node.body
+    change = entered ctx.moment target.name d.dirent node.body
 
     leads_to_last : next ≡ last_tree
     leads_to_last =
@@ -722,9 +722,9 @@ module _ (tree : Tree) (ctx : Ctx) (fits : Type 0) (next : Tree) (good : Sound t
     sound_by =
         let blocks : last_tree.geometry.data_blocks ≡ tree.geometry.data_blocks =
         ap (λ g. g.data_blocks) c.geometry in
-        let room = room_after tree last_tree good.room
-        (subst (λ t. lacks_room tree t ≡ false) leads_to_last d.room) in
-        subst Sound (sym leads_to_last) (to_sound last_tree last_lacks (omega (arith, blocks, room)))
+        let has_space = space_after tree last_tree good.has_space
+        (subst (λ t. lacks_space tree t ≡ false) leads_to_last d.has_space) in
+        subst Sound (sym leads_to_last) (to_sound last_tree last_lacks (omega (arith, blocks, has_space)))
 
   -- A renaming keeps the tree sound.
   pub rename_sound : Sound next

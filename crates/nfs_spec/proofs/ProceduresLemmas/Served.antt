@@ -27,10 +27,10 @@ getattr_is_step tree next ctx object outcome leads =
     record { new = number.new; is_new = number.is; leads = leads }
 
 pub setattr_is_step : (tree next : Tree) (ctx : Ctx) (object : Handle) (wanted : NewAttributes)
-    (guard : Option Moment) (outcome : Result (Unit {0}) Status) (told : WeakCacheData)
-    → SetAttrStep tree ctx object.bytes wanted guard outcome told next
-    → step tree ctx (call.SetAttr object wanted guard) (reply.SetAttr outcome told) next
-setattr_is_step tree next ctx object wanted guard outcome told leads =
+    (guard : Option Moment) (outcome : Result (Unit {0}) Status) (file_attributes : WeakCacheData)
+    → SetAttrStep tree ctx object.bytes wanted guard outcome file_attributes next
+    → step tree ctx (call.SetAttr object wanted guard) (reply.SetAttr outcome file_attributes) next
+setattr_is_step tree next ctx object wanted guard outcome file_attributes leads =
     let number = new_number tree in
     record { new = number.new; is_new = number.is; leads = leads }
 

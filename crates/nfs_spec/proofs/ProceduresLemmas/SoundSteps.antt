@@ -13,7 +13,7 @@ use Rattle.nfs_spec.specs.Model.Sound.{Sound, SoundCtx}
 use Rattle.nfs_spec.specs.Model.Tree.{Tree, node_at}
 use Rattle.nfs_spec.proofs.ProceduresLemmas.Tests.{yes_or_no}
 use Rattle.nfs_spec.proofs.ProceduresLemmas.Doing.{what_is_done}
-use Rattle.nfs_spec.proofs.ProceduresLemmas.Deeds.{Deed, leaves, links, makes, removes, renames, sets, writes}
+use Rattle.nfs_spec.proofs.ProceduresLemmas.TreeChanges.{TreeChange, leaves, links, makes, removes, renames, sets, writes}
 use Rattle.nfs_spec.proofs.ProceduresLemmas.Renaming.{rename_sound}
 use Rattle.nfs_spec.proofs.ProceduresLemmas.Soundness.{link_sound, make_sound, remove_sound, set_sound, write_sound}
 use Rattle.nfs_spec.proofs.ProceduresLemmas.Within.{along, zero_stays}
@@ -21,20 +21,20 @@ use Rattle.nfs_spec.specs.Procedures.After.{after}
 use Rattle.nfs_spec.specs.Procedures.Histories.{SoundHistory}
 use Rattle.nfs_spec.specs.Procedures.Step.{step}
 
-deed_sound : (tree next : Tree) (ctx : Ctx) (fits : Type 0) → Sound tree → SoundCtx ctx → fits
-    → Deed tree ctx fits next → Sound next
-deed_sound tree next ctx fits good now f (leaves same) = subst Sound (sym same) good
-deed_sound tree next ctx fits good now f (sets d) = set_sound tree ctx fits next good now f d
-deed_sound tree next ctx fits good now f (writes d) = write_sound tree ctx fits next good now f d
-deed_sound tree next ctx fits good now f (makes d) = make_sound tree ctx fits next good now f d
-deed_sound tree next ctx fits good now f (links d) = link_sound tree ctx fits next good now f d
-deed_sound tree next ctx fits good now f (removes d) = remove_sound tree ctx fits next good now f d
-deed_sound tree next ctx fits good now f (renames d) = rename_sound tree ctx fits next good now f d
+tree_change_sound : (tree next : Tree) (ctx : Ctx) (fits : Type 0) → Sound tree → SoundCtx ctx → fits
+    → TreeChange tree ctx fits next → Sound next
+tree_change_sound tree next ctx fits good now f (leaves same) = subst Sound (sym same) good
+tree_change_sound tree next ctx fits good now f (sets d) = set_sound tree ctx fits next good now f d
+tree_change_sound tree next ctx fits good now f (writes d) = write_sound tree ctx fits next good now f d
+tree_change_sound tree next ctx fits good now f (makes d) = make_sound tree ctx fits next good now f d
+tree_change_sound tree next ctx fits good now f (links d) = link_sound tree ctx fits next good now f d
+tree_change_sound tree next ctx fits good now f (removes d) = remove_sound tree ctx fits next good now f d
+tree_change_sound tree next ctx fits good now f (renames d) = rename_sound tree ctx fits next good now f d
 
 pub step_sound : (tree next : Tree) (ctx : Ctx) (asked : Call) (given : Reply) → Sound tree → SoundCtx ctx
     → CallFits asked → step tree ctx asked given next → Sound next
 step_sound tree next ctx asked given good now fits step =
-    deed_sound tree next ctx (CallFits asked) good now fits
+    tree_change_sound tree next ctx (CallFits asked) good now fits
     (what_is_done tree next ctx step.new asked given step.is_new step.leads)
 
 pub history_sound : (tree next : Tree) (entries : List Entry) → Sound tree → SoundHistory entries
@@ -69,9 +69,9 @@ module _ (tree : Tree) (good : Sound tree) (number steps : ℕ) (node : Node)
   directory_case : is_directory node.body ≡ true → ⊥
   directory_case dir =
       let reached = ((good.files number node there).directory dir).reached in
-      let far : reached.0 ≤ reached.0 * suc steps = grows reached.0 in
+      let many_steps : reached.0 ≤ reached.0 * suc steps = grows reached.0 in
       let whole : reached.0 * suc steps ≡ reached.0 + (reached.0 * suc steps - reached.0) =
-      omega (arith, far) in
+      omega (arith, many_steps) in
       let more = reached.0 * suc steps - reached.0 in
       other (
       sym (rounds reached.0) ∙ ap (λ n. ancestor tree n number) whole

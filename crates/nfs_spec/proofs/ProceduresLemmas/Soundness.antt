@@ -1,4 +1,4 @@
--- Each deed but a renaming keeps a sound tree sound.
+-- Each change but a renaming keeps a sound tree sound.
 use Rattle.std.proofs.Common.{◌≡◌, ◌≢◌, ℕ, zero, suc, ◌+◌, ◌-◌, ◌<◌, ◌≤◌, sym, ap, subst, ◌∙◌, refl}
 use Rattle.std.proofs.Common.{Bool, true, false, cond, not, List, length, nat_eq, nat_le, nat_lt}
 use Rattle.std.proofs.Common.{Option, Some, None, is_some, arith}
@@ -14,29 +14,29 @@ use Rattle.nfs_spec.proofs.ModelLemmas.Attributed.{shape, sound_node}
 use Rattle.nfs_spec.proofs.ModelLemmas.Replaced as replaced
 use Rattle.nfs_spec.specs.Model.Cost.{cost}
 use Rattle.nfs_spec.specs.Model.Names.{entries_of, is_directory, parent_of}
-use Rattle.nfs_spec.specs.Model.Node.{Node, Body, DirectoryEntry, Regular, Directory, Link}
+use Rattle.nfs_spec.specs.Model.Node.{Node, Body, DirentValue, Regular, Directory, Link}
 use Rattle.nfs_spec.specs.Model.SetAttr.{is_regular, with_attributes}
 use Rattle.nfs_spec.specs.Model.Sound.{Sound, SoundBody, SoundCtx, SoundNode, SoundVerifier}
 use Rattle.nfs_spec.specs.Model.Tree.{Tree, node_at, with_node}
 use Rattle.nfs_spec.proofs.ProceduresLemmas.Tests.{at_most_one, equal, neither, not_above, passes}
 use Rattle.nfs_spec.proofs.ProceduresLemmas.Adding.{added}
-use Rattle.nfs_spec.proofs.ProceduresLemmas.Deeds.{Links, Makes, Removes, Sets, Writes, named_is, passed}
-use Rattle.nfs_spec.proofs.ProceduresLemmas.Entering.{least_is_free, sound_name}
+use Rattle.nfs_spec.proofs.ProceduresLemmas.TreeChanges.{Links, Makes, Removes, Sets, Writes, named_is, passed}
+use Rattle.nfs_spec.proofs.ProceduresLemmas.NameChanges.{least_is_free, sound_name}
 use Rattle.nfs_spec.proofs.ProceduresLemmas.Keeping.{reshaped}
 use Rattle.nfs_spec.proofs.ProceduresLemmas.Lacking.{Lacking, Reached, none_lacks, of_sound, put_change, to_sound}
-use Rattle.nfs_spec.proofs.ProceduresLemmas.Naming.{depart, enter, entry_stands, not_in_itself, one_less, one_of}
+use Rattle.nfs_spec.proofs.ProceduresLemmas.Naming.{depart, enter, dirent_stands, not_in_itself, one_less, one_of}
 use Rattle.nfs_spec.proofs.ProceduresLemmas.Naming.{one_of_itself}
 use Rattle.nfs_spec.proofs.ProceduresLemmas.Naming.{one_of_other, unname}
 use Rattle.nfs_spec.proofs.ProceduresLemmas.Overwriting.{overwritten_sound}
 use Rattle.nfs_spec.proofs.ProceduresLemmas.Parts.{insert_swap}
-use Rattle.nfs_spec.proofs.ProceduresLemmas.Room.{room_after}
-use Rattle.nfs_spec.specs.Procedures.Changes.{changed_at, departed, entered, lacks_room, parent_links, is_last_name}
+use Rattle.nfs_spec.proofs.ProceduresLemmas.UsedWithin.{space_after}
+use Rattle.nfs_spec.specs.Procedures.Changes.{changed_at, departed, entered, lacks_space, parent_links, is_last_name}
 use Rattle.nfs_spec.specs.Procedures.Changes.{unnamed, with_file, without_node}
-use Rattle.nfs_spec.specs.Procedures.Changes.{without_entry}
+use Rattle.nfs_spec.specs.Procedures.Changes.{without_dirent}
 use Rattle.nfs_spec.specs.Procedures.Fresh.{fresh, made}
 use Rattle.nfs_spec.specs.Procedures.Link.{linked}
 use Rattle.nfs_spec.specs.Procedures.MkDir.{is_full}
-use Rattle.nfs_spec.specs.Procedures.Places.{entry_at, file_at, named_file}
+use Rattle.nfs_spec.specs.Procedures.Places.{dirent_at, file_at, named_file}
 use Rattle.nfs_spec.specs.Procedures.Write.{is_wrong_count, with_text, written}
 
 -- the file that is changed stands there
@@ -55,22 +55,22 @@ with_two tree k j a b apart =
     }
 
 -- where a name leads to no file, no entry has it
-pub no_entry : (tree : Tree) → Sound tree → (at : ℕ) (directory : Node) → node_at tree at ≡ Some directory
-    → (name : List ℕ) → named_file tree directory name ≡ None → entry_at directory.body name ≡ None
-no_entry tree good at directory stands name absent = by (entry_at directory.body name) refl absent
+pub no_dirent : (tree : Tree) → Sound tree → (at : ℕ) (directory : Node) → node_at tree at ≡ Some directory
+    → (name : List ℕ) → named_file tree directory name ≡ None → dirent_at directory.body name ≡ None
+no_dirent tree good at directory stands name absent = by (dirent_at directory.body name) refl absent
   where
-    none_by : (entry : DirectoryEntry) (o : Option Node) → option_map {U =
-        ℕ × Node} (λ node. (entry.number, node)) o ≡ None
+    none_by : (dirent : DirentValue) (o : Option Node) → option_map {U =
+        ℕ × Node} (λ node. (dirent.number, node)) o ≡ None
         → is_some o ≡ true → ⊥
-    none_by entry None e some = cc
-    none_by entry (Some node) e some = cc
+    none_by dirent None e some = cc
+    none_by dirent (Some node) e some = cc
 
-    by : (o : Option DirectoryEntry) → entry_at directory.body name ≡ o
+    by : (o : Option DirentValue) → dirent_at directory.body name ≡ o
         → option_and_then (λ e. file_at tree e.number) o ≡ None → o ≡ None
     by None is e = refl
-    by (Some entry) is e =
-        absurd (none_by entry (node_at tree entry.number) e
-        (entry_stands tree none_lacks (of_sound tree good) at directory stands name entry is))
+    by (Some dirent) is e =
+        absurd (none_by dirent (node_at tree dirent.number) e
+        (dirent_stands tree none_lacks (of_sound tree good) at directory stands name dirent is))
 
 pub few_links : (n : ℕ) (directory : Node) → directory.nlink ≤ MOST_LINKS → n ≤ 1
     → (1 ≤ n → is_full directory ≡ false) → directory.nlink + n ≤ MOST_LINKS
@@ -119,7 +119,7 @@ same_verifier offset text (Directory named span parent) verifier good = good
 same_verifier offset text (Link target) verifier good = good
 
 -- a directory that loses a name keeps its blocks
-pub same_cost : (name : List ℕ) (body : Body) → cost (without_entry name body) ≡ cost body
+pub same_cost : (name : List ℕ) (body : Body) → cost (without_dirent name body) ≡ cost body
 same_cost name (Regular bytes mapped) = refl
 same_cost name (Directory named span parent) = refl
 same_cost name (Link target) = refl
@@ -237,13 +237,13 @@ module _ (tree : Tree) (ctx : Ctx) (fits : Type 0) (next : Tree) (good : Sound t
         }) in
         subst Sound (sym d.leads)
         (to_sound to result
-        (room_after tree to good.room (subst (λ t. lacks_room tree t ≡ false) d.leads d.room)))
+        (space_after tree to good.has_space (subst (λ t. lacks_space tree t ≡ false) d.leads d.has_space)))
 
   -- What is made.
 
   module _ (d : Makes tree ctx fits next) where
     abbrev number : ℕ
-    number = d.entry.number
+    number = d.dirent.number
 
     abbrev blank : Node
     blank = fresh ctx d.mode d.verifier d.body
@@ -303,15 +303,15 @@ module _ (tree : Tree) (ctx : Ctx) (fits : Type 0) (next : Tree) (good : Sound t
     pub make_sound : Sound next
     make_sound =
         let same = shape ctx.moment d.wanted blank in
-        let slot = least_is_free d.directory.body d.entry.slot d.slot in
-        let change : Node → Node = entered ctx.moment d.name d.entry node.body in
+        let slot = least_is_free d.directory.body d.dirent.slot d.slot in
+        let change : Node → Node = entered ctx.moment d.name d.dirent node.body in
         let apart = no_file_there d.at d.directory d.stands in
         let to = with_node first d.at (change d.directory) in
         let result : Lacking to none_lacks =
         enter first (one_of number) none_lacks with_file_first d.at d.directory
         ((put_change tree number None node d.unused.free).there d.at apart
         ∙ d.stands) d.placed.directory_is d.name
-        d.entry (no_entry tree good d.at d.directory d.stands d.name d.absent) node
+        d.dirent (no_dirent tree good d.at d.directory d.stands d.name d.absent) node
         (put_change tree number None node d.unused.free).here
         (sound_name d.directory d.name d.placed (d.name_bounds f)) slot.1 slot.0 ctx.moment now.moment
         (few_links (parent_links node.body) d.directory (good.files d.at d.directory d.stands).itself.nlink
@@ -321,8 +321,8 @@ module _ (tree : Tree) (ctx : Ctx) (fits : Type 0) (next : Tree) (good : Sound t
         d.leads ∙ ap (λ t. with_node t number node) (changed_is tree d.at change d.directory d.stands)
         ∙ with_two tree d.at number (change d.directory) node apart in
         subst Sound (sym leads)
-        (to_sound to result (room_after tree to good.room (subst (λ t. lacks_room tree t
-        ≡ false) leads d.room)))
+        (to_sound to result (space_after tree to good.has_space (subst (λ t. lacks_space tree t
+        ≡ false) leads d.has_space)))
 
   -- What is linked.
 
@@ -330,7 +330,7 @@ module _ (tree : Tree) (ctx : Ctx) (fits : Type 0) (next : Tree) (good : Sound t
     file : Node
     file = d.node
 
-    not_at : d.at ≢ d.entry.number
+    not_at : d.at ≢ d.dirent.number
     not_at same =
         let one : Some d.directory ≡ Some d.node =
         sym d.stands ∙ ap (node_at tree) (same ∙ d.number_is) ∙ d.file_stands in
@@ -338,7 +338,7 @@ module _ (tree : Tree) (ctx : Ctx) (fits : Type 0) (next : Tree) (good : Sound t
         let never : true ≡ false = sym d.placed.directory_is ∙ ap (λ n. is_directory n.body) directory_is
         ∙ d.no_directory in cc
 
-    file_there : node_at tree d.entry.number ≡ Some d.node
+    file_there : node_at tree d.dirent.number ≡ Some d.node
     file_there = ap (node_at tree) d.number_is ∙ d.file_stands
 
     few : suc d.node.nlink ≤ MOST_LINKS
@@ -362,12 +362,12 @@ module _ (tree : Tree) (ctx : Ctx) (fits : Type 0) (next : Tree) (good : Sound t
         }
 
     abbrev with_one_more : Tree
-    with_one_more = with_node tree d.entry.number (linked ctx.moment d.node)
+    with_one_more = with_node tree d.dirent.number (linked ctx.moment d.node)
 
-    more_links : Lacking with_one_more (one_of d.entry.number)
+    more_links : Lacking with_one_more (one_of d.dirent.number)
     more_links =
-        reshaped tree with_one_more none_lacks (one_of d.entry.number) d.entry.number d.node
-        (linked ctx.moment d.node) (put_change tree d.entry.number (Some d.node)
+        reshaped tree with_one_more none_lacks (one_of d.dirent.number) d.dirent.number d.node
+        (linked ctx.moment d.node) (put_change tree d.dirent.number (Some d.node)
         (linked ctx.moment d.node) file_there)
         (of_sound tree good) (record {
           itself = linked_sound;
@@ -377,23 +377,23 @@ module _ (tree : Tree) (ctx : Ctx) (fits : Type 0) (next : Tree) (good : Sound t
           stamp = refl;
           links = λ dir. let never : true ≡ false = sym dir ∙ d.no_directory in cc;
           whole = λ dir. let never : true ≡ false = sym dir ∙ d.no_directory in cc;
-          names = λ other. let one = one_of_itself d.entry.number in omega (arith, one);
+          names = λ other. let one = one_of_itself d.dirent.number in omega (arith, one);
           named = λ other. omega arith;
-          others = λ q apart. one_of_other d.entry.number q apart;
+          others = λ q apart. one_of_other d.dirent.number q apart;
         })
 
     pub link_sound : Sound next
     link_sound =
-        let slot = least_is_free d.directory.body d.entry.slot d.slot in
-        let put = put_change tree d.entry.number (Some d.node) (linked ctx.moment d.node) file_there in
-        let change : Node → Node = entered ctx.moment d.name d.entry d.node.body in
+        let slot = least_is_free d.directory.body d.dirent.slot d.slot in
+        let put = put_change tree d.dirent.number (Some d.node) (linked ctx.moment d.node) file_there in
+        let change : Node → Node = entered ctx.moment d.name d.dirent d.node.body in
         let none : parent_links d.node.body ≡ 0 = ap (λ b. cond b 1 0) d.no_directory in
         let small = (good.files d.at d.directory d.stands).itself.nlink in
         let to = with_node with_one_more d.at (change d.directory) in
         let result : Lacking to none_lacks =
-        enter with_one_more (one_of d.entry.number) none_lacks more_links d.at d.directory
-        (put.there d.at not_at ∙ d.stands) d.placed.directory_is d.name d.entry
-        (no_entry tree good d.at d.directory d.stands d.name d.absent) (linked ctx.moment d.node) put.here
+        enter with_one_more (one_of d.dirent.number) none_lacks more_links d.at d.directory
+        (put.there d.at not_at ∙ d.stands) d.placed.directory_is d.name d.dirent
+        (no_dirent tree good d.at d.directory d.stands d.name d.absent) (linked ctx.moment d.node) put.here
         (sound_name d.directory d.name d.placed (d.name_bounds f)) slot.1 slot.0 ctx.moment now.moment
         (omega (arith, none, small)) (λ dir. let never : true ≡ false = sym dir ∙ d.no_directory in cc)
         (λ q. omega arith) in
@@ -403,12 +403,12 @@ module _ (tree : Tree) (ctx : Ctx) (fits : Type 0) (next : Tree) (good : Sound t
         (changed_is tree d.at change d.directory d.stands)
         ∙ ap (λ n. changed_at (with_node tree d.at (change d.directory)) n (linked ctx.moment))
         (sym d.number_is)
-        ∙ changed_is (with_node tree d.at (change d.directory)) d.entry.number (linked ctx.moment) d.node
-        (entered_first.there d.entry.number (λ same. not_at (sym same)) ∙ file_there)
-        ∙ with_two tree d.at d.entry.number (change d.directory) (linked ctx.moment d.node) not_at in
+        ∙ changed_is (with_node tree d.at (change d.directory)) d.dirent.number (linked ctx.moment) d.node
+        (entered_first.there d.dirent.number (λ same. not_at (sym same)) ∙ file_there)
+        ∙ with_two tree d.at d.dirent.number (change d.directory) (linked ctx.moment d.node) not_at in
         subst Sound (sym leads)
-        (to_sound to result (room_after tree to good.room (subst (λ t. lacks_room tree t
-        ≡ false) leads d.room)))
+        (to_sound to result (space_after tree to good.has_space (subst (λ t. lacks_space tree t
+        ≡ false) leads d.has_space)))
 
   -- What is removed.
 
@@ -417,17 +417,17 @@ module _ (tree : Tree) (ctx : Ctx) (fits : Type 0) (next : Tree) (good : Sound t
     remove_sound =
         let base = of_sound tree good in
         let named = named_is tree d.directory d.name d.file d.found in
-        let number = named.entry.number in
+        let number = named.dirent.number in
         let file = d.file.1 in
         let there : node_at tree number ≡ Some file = ap (node_at tree) named.number_is ∙ named.stands in
         let change : Node → Node = departed ctx.moment d.name file.body in
         let left = with_node tree d.at (change d.directory) in
         let put = put_change tree d.at (Some d.directory) (change d.directory) d.stands in
         let lacking : Lacking left (one_less none_lacks number) =
-        depart tree none_lacks base d.at d.directory d.stands d.name named.entry named.entry_is file there refl
+        depart tree none_lacks base d.at d.directory d.stands d.name named.dirent named.dirent_is file there refl
         ctx.moment now.moment in
-        let apart = not_in_itself tree none_lacks base d.at d.directory d.stands d.name named.entry
-        named.entry_is file
+        let apart = not_in_itself tree none_lacks base d.at d.directory d.stands d.name named.dirent
+        named.dirent_is file
         there refl in
         let one = one_of_itself number in
         let result =
@@ -437,9 +437,9 @@ module _ (tree : Tree) (ctx : Ctx) (fits : Type 0) (next : Tree) (good : Sound t
         (λ q node is dir other lacks_one. let none = one_of_other number q other in
         absurd (omega (arith, none, lacks_one))) ctx.moment now.moment in
         let same = same_cost d.name d.directory.body in
-        let sum = put.sums (λ entry. cost entry.1.body) in
-        let less = result.room in
-        let room = good.room in
+        let sum = put.sums (λ dirent. cost dirent.1.body) in
+        let less = result.has_space in
+        let has_space = good.has_space in
         let leads : next ≡ unnamed left ctx.moment number file =
         d.leads
         ∙ ap (λ t. unnamed t ctx.moment d.file.0 file) (changed_is tree d.at change d.directory d.stands)
@@ -447,4 +447,4 @@ module _ (tree : Tree) (ctx : Ctx) (fits : Type 0) (next : Tree) (good : Sound t
         let to = unnamed left ctx.moment number file in
         let blocks : to.geometry.data_blocks ≡ tree.geometry.data_blocks =
         ap (λ g. g.data_blocks) (same_geometry left ctx.moment number file) in
-        subst Sound (sym leads) (to_sound to result.tree_is (omega (arith, same, sum, less, room, blocks)))
+        subst Sound (sym leads) (to_sound to result.tree_is (omega (arith, same, sum, less, has_space, blocks)))

@@ -20,8 +20,8 @@ use Rattle.nfs_spec.specs.Model.Sound.{IsMadeBy}
 use Rattle.nfs_spec.specs.Model.Tree.{Tree, node_at, with_node}
 use Rattle.nfs_spec.proofs.ProceduresLemmas.Tests.{equal}
 use Rattle.nfs_spec.proofs.ProceduresLemmas.Doing.{what_is_done}
-use Rattle.nfs_spec.proofs.ProceduresLemmas.Deeds.{Deed, leaves, links, makes, named_is, removes, renames, sets}
-use Rattle.nfs_spec.proofs.ProceduresLemmas.Deeds.{writes}
+use Rattle.nfs_spec.proofs.ProceduresLemmas.TreeChanges.{TreeChange, leaves, links, makes, named_is, removes, renames, sets}
+use Rattle.nfs_spec.proofs.ProceduresLemmas.TreeChanges.{writes}
 use Rattle.nfs_spec.proofs.ProceduresLemmas.Lacking.{equal_or_not, gone_change, put_change}
 use Rattle.nfs_spec.specs.Procedures.Changes.{changed_at, departed, is_last_name, with_file, without_name}
 use Rattle.nfs_spec.specs.Procedures.Changes.{without_node}
@@ -29,7 +29,7 @@ use Rattle.nfs_spec.specs.Procedures.After.{after}
 use Rattle.nfs_spec.specs.Procedures.Histories.{IsGivenByNone, stamp_of}
 use Rattle.nfs_spec.specs.Procedures.Link.{linked}
 use Rattle.nfs_spec.specs.Procedures.Rename.{file_in, moved}
-use Rattle.nfs_spec.specs.Procedures.Stamps.{IsKeptOrMade}
+use Rattle.nfs_spec.specs.Procedures.Stamps.{IsPreservedOrMade}
 use Rattle.nfs_spec.specs.Procedures.Step.{step}
 use Rattle.nfs_spec.specs.Procedures.Write.{with_text, written}
 
@@ -103,7 +103,7 @@ refound tree handle found new is same =
 pub record Follows (tree next : Tree) (mine : Stamp) : Type 0 where
   pub geometry : next.geometry ≡ tree.geometry
   pub stamps : (number : ℕ) (node : Node) → node_at next number ≡ Some node
-      → IsKeptOrMade tree number node.stamp mine
+      → IsPreservedOrMade tree number node.stamp mine
 
 module _ (mine : Stamp) (tree : Tree) where
   pub stays : Follows tree tree mine
@@ -114,7 +114,7 @@ module _ (mine : Stamp) (tree : Tree) where
 
   -- a file that keeps the stamp of the one before it, or has that of the context under an unused number
   pub puts : (middle : Tree) (number : ℕ) (new : Node) → Follows tree middle mine
-      → IsKeptOrMade tree number new.stamp mine → Follows tree (with_node middle number new) mine
+      → IsPreservedOrMade tree number new.stamp mine → Follows tree (with_node middle number new) mine
   puts middle number new before given =
       let change = put_change middle number (node_at middle number) new refl in
       record {
@@ -125,8 +125,8 @@ module _ (mine : Stamp) (tree : Tree) where
                   let one : Some new ≡ Some node =
                   sym change.here ∙ ap (node_at (with_node middle number new)) (sym same) ∙ is in
                   let new_is : new ≡ node = cc in
-                  subst (λ s. IsKeptOrMade tree q s mine) (ap (λ (n : Node). n.stamp) new_is)
-                  (subst (λ n. IsKeptOrMade tree n new.stamp mine) (sym same) given)
+                  subst (λ s. IsPreservedOrMade tree q s mine) (ap (λ (n : Node). n.stamp) new_is)
+                  (subst (λ n. IsPreservedOrMade tree n new.stamp mine) (sym same) given)
               | inr apart ↦ before.stamps q node (sym (change.there q apart) ∙ is)
             ];
       }
@@ -150,15 +150,15 @@ module _ (mine : Stamp) (tree : Tree) where
       → node_at middle number ≡ at → Follows tree middle mine → ((node : Node)
       → (change node).stamp ≡ node.stamp)
       → Follows tree (with_file middle number (option_map change at)) mine
-  changes_by middle number change None is before keeps = before
-  changes_by middle number change (Some node) is before keeps =
+  changes_by middle number change None is before preserves = before
+  changes_by middle number change (Some node) is before preserves =
       puts middle number (change node) before
-      (subst (λ s. IsKeptOrMade tree number s mine) (sym (keeps node)) (before.stamps number node is))
+      (subst (λ s. IsPreservedOrMade tree number s mine) (sym (preserves node)) (before.stamps number node is))
 
   pub changes : (middle : Tree) (number : ℕ) (change : Node → Node) → Follows tree middle mine
       → ((node : Node) → (change node).stamp ≡ node.stamp) → Follows tree (changed_at middle number change) mine
-  changes middle number change before keeps =
-      changes_by middle number change (node_at middle number) refl before keeps
+  changes middle number change before preserves =
+      changes_by middle number change (node_at middle number) refl before preserves
 
   unnames_by : (last : Bool) (middle : Tree) (number : ℕ) (file fewer : Node) → Follows tree middle mine
       → node_at tree number ≡ Some file → file.stamp ≡ fewer.stamp
@@ -182,12 +182,12 @@ written_stamp true node new e = refl
 written_stamp false node new e = e
 
 module _ (tree next : Tree) (ctx : Ctx) (fits : Type 0) where
-  deed_follows : Deed tree ctx fits next → Follows tree next (stamp_of ctx)
-  deed_follows (leaves same) = subst (λ t. Follows tree t (stamp_of ctx)) (sym same) (stays (stamp_of ctx) tree)
-  deed_follows (sets d) =
+  tree_change_follows : TreeChange tree ctx fits next → Follows tree next (stamp_of ctx)
+  tree_change_follows (leaves same) = subst (λ t. Follows tree t (stamp_of ctx)) (sym same) (stays (stamp_of ctx) tree)
+  tree_change_follows (sets d) =
       subst (λ t. Follows tree t (stamp_of ctx)) (sym d.leads)
       (puts (stamp_of ctx) tree tree d.number _ (stays (stamp_of ctx) tree) (inl (record { old = d.node; old_is = d.stands; stamp_is = refl })))
-  deed_follows (writes d) =
+  tree_change_follows (writes d) =
       subst (λ t. Follows tree t (stamp_of ctx)) (sym d.leads)
       (puts (stamp_of ctx) tree tree d.number (written ctx.moment d.offset d.text d.node) (stays
       (stamp_of ctx) tree)
@@ -200,22 +200,22 @@ module _ (tree next : Tree) (ctx : Ctx) (fits : Type 0) where
           body = with_text d.offset d.text d.node.body;
         }) refl;
       })))
-  deed_follows (makes d) =
+  tree_change_follows (makes d) =
       subst (λ t. Follows tree t (stamp_of ctx)) (sym d.leads)
-      (puts (stamp_of ctx) tree _ d.entry.number _
+      (puts (stamp_of ctx) tree _ d.dirent.number _
       (changes (stamp_of ctx) tree tree d.at _ (stays (stamp_of ctx) tree) (λ node. refl))
       (inr (record { unused = d.unused.free; stamp_is = refl })))
-  deed_follows (links d) =
+  tree_change_follows (links d) =
       subst (λ t. Follows tree t (stamp_of ctx)) (sym d.leads)
       (changes (stamp_of ctx) tree _ d.number (linked ctx.moment)
       (changes (stamp_of ctx) tree tree d.at _ (stays (stamp_of ctx) tree) (λ node. refl)) (λ node. refl))
-  deed_follows (removes d) =
+  tree_change_follows (removes d) =
       subst (λ t. Follows tree t (stamp_of ctx)) (sym d.leads)
       (unnames (stamp_of ctx) tree tree ctx.moment d.at d.name (Some d.file) (stays (stamp_of ctx) tree)
       (λ file same.
       let one : d.file ≡ file = cc in
       subst (λ f. node_at tree f.0 ≡ Some f.1) one (named_is tree d.directory d.name d.file d.found).stands))
-  deed_follows (renames d) =
+  tree_change_follows (renames d) =
       subst (λ t. Follows tree t (stamp_of ctx)) (sym d.leads)
       (changes (stamp_of ctx) tree _ d.file.0 (moved ctx.moment d.target.number)
       (changes (stamp_of ctx) tree _ d.target.number _
@@ -228,7 +228,7 @@ module _ (tree next : Tree) (ctx : Ctx) (fits : Type 0) where
 pub step_follows : (tree next : Tree) (ctx : Ctx) (asked : Call) (given : Reply)
     → step tree ctx asked given next → Follows tree next (stamp_of ctx)
 step_follows tree next ctx asked given step =
-    deed_follows tree next ctx (CallFits asked)
+    tree_change_follows tree next ctx (CallFits asked)
     (what_is_done tree next ctx step.new asked given step.is_new step.leads)
 
 -- No step gives the stamp of a later boot.

@@ -13,10 +13,10 @@ use Rattle.nfs_types.specs.declared.verifier.Verifier.{Verifier}
 use Rattle.nfs_spec.specs.Model.Find.{find_file}
 use Rattle.nfs_spec.specs.Model.Node.{Node}
 use Rattle.nfs_spec.specs.Model.Tree.{Tree, with_node}
-use Rattle.nfs_spec.specs.Procedures.Changes.{if_room, lacks_room}
+use Rattle.nfs_spec.specs.Procedures.Changes.{if_space, lacks_space}
 use Rattle.nfs_spec.specs.Procedures.Commit.{CommitStep, commit, commit_refusal}
 use Rattle.nfs_spec.specs.Procedures.FirstTests.{found_then, unless}
-use Rattle.nfs_spec.specs.Procedures.Told.{Effect, answer_of}
+use Rattle.nfs_spec.specs.Procedures.StepForms.{Effect, answer_of}
 use Rattle.nfs_spec.specs.Procedures.Write.{WriteStep, write, write_refusal, written, written_reply}
 
 -- what an outcome tells, if it is no refusal, passes
@@ -24,11 +24,11 @@ IfAnswered : {A : Type 0} → (A → Type 0) → Result A Status → Type 0
 IfAnswered P (Ok answer) = P answer
 IfAnswered P (Err status) = Unit {0}
 
-by_room : {A : Type 0} (P : A → Type 0) (b : Bool) (effect : Effect A) → P effect.answer
+by_space : {A : Type 0} (P : A → Type 0) (b : Bool) (effect : Effect A) → P effect.answer
     → IfAnswered P (answer_of (cond b (Err status.NoSpc) (Ok effect)))
 unfolding IfAnswered
-by_room P true effect p = tt
-by_room P false effect p = p
+by_space P true effect p = tt
+by_space P false effect p = p
 
 by_unless : {A : Type 0} (P : A → Type 0) (test : Option Status) (result : Result (Effect A) Status)
     → IfAnswered P (answer_of result) → IfAnswered P (answer_of (unless test result))
@@ -53,10 +53,10 @@ unfolding IfAnswered
 folded P answer p = p
 
 pub of_write : (tree next : Tree) (ctx : Ctx) (file : List ℕ) (offset count : ℕ) (stability : Stability)
-    (text : List ℕ) (reply : Written) (told : WeakCacheData)
-    → WriteStep tree ctx file offset count stability text (Ok reply) told next
+    (text : List ℕ) (reply : Written) (file_attributes : WeakCacheData)
+    → WriteStep tree ctx file offset count stability text (Ok reply) file_attributes next
     → reply.verifier ≡ boot_verifier ctx.boot
-of_write tree next ctx file offset count stability text reply told s =
+of_write tree next ctx file offset count stability text reply file_attributes s =
     let P : Written → Type 0 = λ w. w.verifier ≡ boot_verifier ctx.boot in
     unfolded P reply
     (subst (IfAnswered P) (sym s.answered)
@@ -66,12 +66,12 @@ of_write tree next ctx file offset count stability text reply told s =
       answer = written_reply ctx count stability;
       next = with_node tree number (written ctx.moment offset text node);
     } in
-    by_unless P (write_refusal ctx.credential offset count text node) (if_room tree effect)
-    (by_room P (lacks_room tree effect.next) effect refl))))
+    by_unless P (write_refusal ctx.credential offset count text node) (if_space tree effect)
+    (by_space P (lacks_space tree effect.next) effect refl))))
 
-pub of_commit : (tree next : Tree) (ctx : Ctx) (file : List ℕ) (verifier : Verifier) (told : WeakCacheData)
-    → CommitStep tree ctx file (Ok verifier) told next → verifier ≡ boot_verifier ctx.boot
-of_commit tree next ctx file verifier told s =
+pub of_commit : (tree next : Tree) (ctx : Ctx) (file : List ℕ) (verifier : Verifier) (file_attributes : WeakCacheData)
+    → CommitStep tree ctx file (Ok verifier) file_attributes next → verifier ≡ boot_verifier ctx.boot
+of_commit tree next ctx file verifier file_attributes s =
     let P : Verifier → Type 0 = λ v. v ≡ boot_verifier ctx.boot in
     let effect : Effect Verifier = record { answer = boot_verifier ctx.boot; next = tree } in
     unfolded P verifier

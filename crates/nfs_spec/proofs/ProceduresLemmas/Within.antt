@@ -88,8 +88,8 @@ module _ (tree : Tree) (good : Sound tree) where
     abbrev above : ℕ → ℕ
     above steps = ancestor tree steps number
 
-    not_near : (steps : ℕ) → steps < tree.geometry.inodes → above steps ≢ file
-    not_near steps below same =
+    not_in_few_steps : (steps : ℕ) → steps < tree.geometry.inodes → above steps ≢ file
+    not_in_few_steps steps below same =
         let all = tree.geometry.inodes in
         let long = length-range_with_len 0 all in
         let at = get_or-range_with_len 0 all steps 0 below in
@@ -132,21 +132,21 @@ module _ (tree : Tree) (good : Sound tree) where
     never zero steps below there = absurd (omega (arith, below))
     never (suc bound) steps below there =
         elim (cases_lt steps tree.geometry.inodes) [
-          | inl near ↦ not_near steps near there
-          | inr far ↦
+          | inl few_steps ↦ not_in_few_steps steps few_steps there
+          | inr many_steps ↦
               let all = tree.geometry.inodes in
               let least = good.geometry.inodes in
               let into : (i : ℕ) → i < all → above i - 1 < all - 1 = λ i inside.
-              let b = between i steps (omega (arith, inside, far)) there in
+              let b = between i steps (omega (arith, inside, many_steps)) there in
               let positive = b.positive in
               let small = b.small in
               omega (arith, positive, small) in
               let apart : (i j : ℕ) → i < j → j < all → above i - 1 ≡ above j - 1 → ⊥ =
               λ i j before inside same.
-              let a = (between i steps (omega (arith, before, inside, far)) there).positive in
-              let b = (between j steps (omega (arith, inside, far)) there).positive in
-              never bound (steps - (j - i)) (omega (arith, below, before, inside, far))
-              (shorter i j steps before (omega (arith, inside, far)) (omega (arith, same, a, b)) ∙ there) in
+              let a = (between i steps (omega (arith, before, inside, many_steps)) there).positive in
+              let b = (between j steps (omega (arith, inside, many_steps)) there).positive in
+              never bound (steps - (j - i)) (omega (arith, below, before, inside, many_steps))
+              (shorter i j steps before (omega (arith, inside, many_steps)) (omega (arith, same, a, b)) ∙ there) in
               let one : (i j : ℕ) → i < all → j < all → above i - 1 ≡ above j - 1 → i ≡ j =
               λ i j i_in j_in same.
               elim (cases_lt i j) [

@@ -28,16 +28,16 @@ use Rattle.nfs_spec.specs.Model.Node.{Node, Body, Regular, Directory, Link}
 use Rattle.nfs_spec.specs.Model.SetAttr.{is_regular}
 use Rattle.nfs_spec.specs.Model.Tree.{Tree, need, used, with_node}
 use Rattle.nfs_spec.proofs.ProceduresLemmas.Tests.{equal, not_above, passes}
-use Rattle.nfs_spec.proofs.ProceduresLemmas.Deeds.{passed}
+use Rattle.nfs_spec.proofs.ProceduresLemmas.TreeChanges.{passed}
 use Rattle.nfs_spec.proofs.ProceduresLemmas.Lacking.{put_change}
-use Rattle.nfs_spec.proofs.ProceduresLemmas.Overwriting.{kept_before, kept_behind, length_overwritten, written_at}
+use Rattle.nfs_spec.proofs.ProceduresLemmas.Overwriting.{preserved_before, preserved_behind, length_overwritten, written_at}
 use Rattle.nfs_spec.proofs.ProceduresLemmas.Parts.{insert_same}
 use Rattle.nfs_spec.proofs.ProceduresLemmas.Stale.{refound}
 use Rattle.nfs_spec.proofs.ProceduresLemmas.Sums.{need_of_one}
-use Rattle.nfs_spec.specs.Procedures.Changes.{if_room, lacks_room}
+use Rattle.nfs_spec.specs.Procedures.Changes.{if_space, lacks_space}
 use Rattle.nfs_spec.specs.Procedures.FirstTests.{found_then, unless}
 use Rattle.nfs_spec.specs.Procedures.Read.{ReadStep, bytes_of, piece, read, read_bytes, read_refusal}
-use Rattle.nfs_spec.specs.Procedures.Told.{Acts, Effect, answer_of, tree_after}
+use Rattle.nfs_spec.specs.Procedures.StepForms.{Acts, Effect, answer_of, tree_after}
 use Rattle.nfs_spec.specs.Procedures.Write.{WriteStep, is_wrong_count, mapped_with, overwritten, touched, with_text}
 use Rattle.nfs_spec.specs.Procedures.Write.{write, write_refusal}
 use Rattle.nfs_spec.specs.Procedures.Write.{written, written_reply}
@@ -77,9 +77,9 @@ by_handle tree next handle act answer (Ok found) is answered leads =
 by_handle tree next handle act answer (Err status) is answered leads = cc
 
 pub acted : {A : Type 0} (tree next : Tree) (handle : List ℕ) (act : ℕ → Node → Result (Effect A) Status)
-    (answer : A) (told : WeakCacheData) → Acts tree handle act (Ok answer) told next
+    (answer : A) (file_attributes : WeakCacheData) → Acts tree handle act (Ok answer) file_attributes next
     → Acted tree next handle act answer
-acted tree next handle act answer told s =
+acted tree next handle act answer file_attributes s =
     by_handle tree next handle act answer (find_file tree handle) refl s.answered s.leads
 
 pub unless_ok : {A : Type 0} (test : Option Status) (result : Result A Status) (answer : A)
@@ -87,10 +87,10 @@ pub unless_ok : {A : Type 0} (test : Option Status) (result : Result A Status) (
 unless_ok None result answer is = (refl, is)
 unless_ok (Some status) result answer is = cc
 
-room_ok : {A : Type 0} (lacks : Bool) (effect answer : Effect A)
+space_ok : {A : Type 0} (lacks : Bool) (effect answer : Effect A)
     → cond lacks (Err status.NoSpc) (Ok effect) ≡ Ok answer → (lacks ≡ false) × (effect ≡ answer)
-room_ok true effect answer is = cc
-room_ok false effect answer is = (refl, cc)
+space_ok true effect answer is = cc
+space_ok false effect answer is = (refl, cc)
 
 few : (count : ℕ) (text : List ℕ) → is_wrong_count count text ≡ false → length text ≤ TRANSFER_BYTES
 few count text right = by (nat_eq count (length text)) refl right
@@ -112,18 +112,18 @@ pub record Wrote (tree next : Tree) (ctx : Ctx) (handle : List ℕ) (offset : �
   pub leads : next ≡ with_node tree found.0 (written ctx.moment offset text found.1)
 
 pub wrote : (tree next : Tree) (ctx : Ctx) (handle : List ℕ) (offset count : ℕ) (stability : Stability)
-    (text : List ℕ) (answer : Written) (told : WeakCacheData)
-    → WriteStep tree ctx handle offset count stability text (Ok answer) told next
+    (text : List ℕ) (answer : Written) (file_attributes : WeakCacheData)
+    → WriteStep tree ctx handle offset count stability text (Ok answer) file_attributes next
     → Wrote tree next ctx handle offset text
-wrote tree next ctx handle offset count stability text answer told s =
-    let done = acted tree next handle (write tree ctx offset count stability text) answer told s in
+wrote tree next ctx handle offset count stability text answer file_attributes s =
+    let done = acted tree next handle (write tree ctx offset count stability text) answer file_attributes s in
     let effect : Effect Written = record {
       answer = written_reply ctx count stability;
       next = with_node tree done.found.0 (written ctx.moment offset text done.found.1);
     } in
-    let tests = unless_ok (write_refusal ctx.credential offset count text done.found.1) (if_room tree effect)
+    let tests = unless_ok (write_refusal ctx.credential offset count text done.found.1) (if_space tree effect)
     done.effect done.act_is in
-    let room = room_ok (lacks_room tree effect.next) effect done.effect tests.1 in
+    let has_space = space_ok (lacks_space tree effect.next) effect done.effect tests.1 in
     let kind = passed (not (is_regular done.found.1.body)) _ _ tests.0 in
     let right = passed (is_wrong_count count text) _ _ kind.1 in
     record {
@@ -131,22 +131,22 @@ wrote tree next ctx handle offset count stability text answer told s =
       found_is = done.found_is;
       regular = passes _ kind.0;
       short = few count text right.0;
-      leads = done.leads ∙ ap (λ e. e.next) (sym room.1);
+      leads = done.leads ∙ ap (λ e. e.next) (sym has_space.1);
     }
 
 -- What is read.
 
-told_by : {A : Type 0} (found : Result (ℕ × Node) Status) (tell : ℕ → Node → Result A Status) (answer : A)
+query_gives : {A : Type 0} (found : Result (ℕ × Node) Status) (tell : ℕ → Node → Result A Status) (answer : A)
     (file : ℕ × Node) → found ≡ Ok file → Ok answer ≡ found_then found tell → Ok answer ≡ tell file.0 file.1
-told_by found tell answer file is answered = answered ∙ ap (λ f. found_then f tell) is
+query_gives found tell answer file is answered = answered ∙ ap (λ f. found_then f tell) is
 
 -- what a READ of a file gives that is answered OK
 pub read_gives : (tree next : Tree) (ctx : Ctx) (handle : List ℕ) (offset count : ℕ) (answer : ReadBytes)
-    (told : Option Attributes) (file : ℕ × Node) → find_file tree handle ≡ Ok file
-    → ReadStep tree ctx handle offset count (Ok answer) told next
+    (file_attributes : Option Attributes) (file : ℕ × Node) → find_file tree handle ≡ Ok file
+    → ReadStep tree ctx handle offset count (Ok answer) file_attributes next
     → answer.bytes ≡ piece offset count (bytes_of file.1.body)
-read_gives tree next ctx handle offset count answer told file is s =
-    let given = told_by (find_file tree handle) (read ctx.credential offset count) answer file is s.answered in
+read_gives tree next ctx handle offset count answer file_attributes file is s =
+    let given = query_gives (find_file tree handle) (read ctx.credential offset count) answer file is s.answered in
     let bytes = bytes_of file.1.body in
     let whole = unless_ok (read_refusal ctx.credential file.1) (Ok (read_bytes offset bytes
     (piece offset count bytes)))
@@ -221,12 +221,12 @@ text_by false offset text node new some short is =
 
 -- A READ of what was written gives it.
 pub text_is_read : (tree middle last : Tree) (ctx later : Ctx) (handle : List ℕ) (offset count : ℕ)
-    (stability : Stability) (text : List ℕ) (answer : Written) (given : ReadBytes) (told : WeakCacheData)
-    (tells : Option Attributes) → WriteStep tree ctx handle offset count stability text (Ok answer) told middle
+    (stability : Stability) (text : List ℕ) (answer : Written) (given : ReadBytes) (file_attributes : WeakCacheData)
+    (tells : Option Attributes) → WriteStep tree ctx handle offset count stability text (Ok answer) file_attributes middle
     → ReadStep middle later handle offset (length text) (Ok given) tells last → given.bytes ≡ text
-text_is_read tree middle last ctx later handle offset count stability text answer given told tells write_is
+text_is_read tree middle last ctx later handle offset count stability text answer given file_attributes tells write_is
     read_is =
-    let done = wrote tree middle ctx handle offset count stability text answer told write_is in
+    let done = wrote tree middle ctx handle offset count stability text answer file_attributes write_is in
     let node = done.found.1 in
     read_gives middle last later handle offset (length text) given tells
     (done.found.0, written ctx.moment offset text node) (found_again tree middle ctx handle offset text
@@ -237,29 +237,29 @@ text_is_read tree middle last ctx later handle offset count stability text answe
       body = with_text offset text node.body;
     }) refl done.short (bytes_with offset text node.body done.regular)
 
-beside_by : (b : Bool) (offset at : ℕ) (text : List ℕ) (node new : Node) → nat_eq (length text) 0 ≡ b
+unaffected_by : (b : Bool) (offset at : ℕ) (text : List ℕ) (node new : Node) → nat_eq (length text) 0 ≡ b
     → (at < offset) ⊎ (offset + length text ≤ at)
     → bytes_of new.body ≡ overwritten offset text (bytes_of node.body)
     → get_or (bytes_of (cond b node new).body) at 0 ≡ get_or (bytes_of node.body) at 0
-beside_by true offset at text node new none where_it_is is = refl
-beside_by false offset at text node new some (inl before) is =
-    ap (λ xs. get_or xs at 0) is ∙ kept_before offset at text (bytes_of node.body) before
-beside_by false offset at text node new some (inr behind) is =
-    ap (λ xs. get_or xs at 0) is ∙ kept_behind offset at text (bytes_of node.body) behind
+unaffected_by true offset at text node new none where_it_is is = refl
+unaffected_by false offset at text node new some (inl before) is =
+    ap (λ xs. get_or xs at 0) is ∙ preserved_before offset at text (bytes_of node.body) before
+unaffected_by false offset at text node new some (inr behind) is =
+    ap (λ xs. get_or xs at 0) is ∙ preserved_behind offset at text (bytes_of node.body) behind
 
 -- A READ beside what was written gives what was there, and zeros where the file had ended.
 pub rest_is_read : (tree middle last : Tree) (ctx later : Ctx) (handle : List ℕ)
     (offset count at asked index : ℕ) (stability : Stability) (text : List ℕ) (answer : Written)
-    (given : ReadBytes) (told : WeakCacheData) (tells : Option Attributes) (file : ℕ × Node)
+    (given : ReadBytes) (file_attributes : WeakCacheData) (tells : Option Attributes) (file : ℕ × Node)
     → find_file tree handle ≡ Ok file → WriteStep tree ctx handle offset count stability text
-    (Ok answer) told middle
+    (Ok answer) file_attributes middle
     → ReadStep middle later handle at asked (Ok given) tells last → index < length given.bytes
     → (at + index < offset) ⊎ (offset + length text ≤ at + index)
     → get_or given.bytes index 0 ≡ get_or (bytes_of file.1.body) (at + index) 0
-rest_is_read tree middle last ctx later handle offset count at asked index stability text answer given told
+rest_is_read tree middle last ctx later handle offset count at asked index stability text answer given file_attributes
     tells
     file file_is write_is read_is inside where_it_is =
-    let done = wrote tree middle ctx handle offset count stability text answer told write_is in
+    let done = wrote tree middle ctx handle offset count stability text answer file_attributes write_is in
     let node = done.found.1 in
     let new : Node = written ctx.moment offset text node in
     let bytes = read_gives middle last later handle at asked given tells (done.found.0, new)
@@ -268,7 +268,7 @@ rest_is_read tree middle last ctx later handle offset count at asked index stabi
     let file_same : done.found ≡ file = cc in
     ap (λ xs. get_or xs index 0) bytes
     ∙ item_of at asked index (bytes_of new.body) (subst (λ xs. index < length xs) bytes inside)
-    ∙ beside_by (nat_eq (length text) 0) offset (at + index) text node (record node {
+    ∙ unaffected_by (nat_eq (length text) 0) offset (at + index) text node (record node {
       mtime = ctx.moment;
       ctime = ctx.moment;
       body = with_text offset text node.body;
@@ -319,7 +319,7 @@ write_takes tree next ctx handle offset text done =
     let new : Node = written ctx.moment offset text node in
     let there = found-stands tree handle done.found done.found_is in
     let change = put_change tree done.found.0 (Some node) new there in
-    let sum = change.sums (λ entry. cost entry.1.body) in
+    let sum = change.sums (λ dirent. cost dirent.1.body) in
     let needs = need_of_one tree done.found.0 node new there in
     let more = written_costs (nat_eq (length text) 0) node (record node {
       mtime = ctx.moment;

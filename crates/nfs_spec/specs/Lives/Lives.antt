@@ -25,7 +25,7 @@ pub record IsCounted (run : CountedRun) : Type 0 where
 -- number, which is the next one where anything was committed.
 pub record Leaves (run next : CountedRun) : Type 0 where
   pub boot : (next.boot ≡ run.boot) ⊎ (next.boot ≡ run.boot + 1)
-  pub raised : 0 < length run.entries → next.boot ≡ run.boot + 1
+  pub boot_incremented : 0 < length run.entries → next.boot ≡ run.boot + 1
   pub kept : ℕ
   pub few : kept ≤ length run.entries
   pub prefix : after run.tree (take kept run.entries) next.tree

@@ -15,5 +15,5 @@ attributes_found (Err status) = Err status
 -- the file's attributes are told, and nothing changes
 pub record GetAttrStep (tree : Tree) (handle : List ℕ) (outcome : Result Attributes Status)
     (next : Tree) : Type 0 where
-  pub told : outcome ≡ attributes_found (find_file tree handle)
+  pub attributes_answered : outcome ≡ attributes_found (find_file tree handle)
   pub unchanged : next ≡ tree

@@ -2,22 +2,22 @@
 use Rattle.std.specs.Prelude.{ℕ, zero, suc, Bool, true, false, List, [], sum_by, count_by, nat_eq, Option}
 use Rattle.std.specs.Prelude.{Some, None}
 use Rattle.std.specs.FinMap.{entries}
-use Rattle.nfs_spec.specs.Model.Node.{Node, Body, DirectoryEntry, Regular, Directory, Link}
+use Rattle.nfs_spec.specs.Model.Node.{Node, Body, DirentValue, Regular, Directory, Link}
 use Rattle.nfs_spec.specs.Model.Tree.{Tree, node_at}
 
 -- the entries that a file has: none, but for a directory
-abbrev pub entries_of : Body → List (List ℕ × DirectoryEntry)
+abbrev pub entries_of : Body → List (List ℕ × DirentValue)
 entries_of (Regular bytes mapped) = []
 entries_of (Directory named span parent) = entries named
 entries_of (Link target) = []
 
 -- how many entries of a file name a number
 abbrev pub names_in : ℕ → Body → ℕ
-names_in number body = count_by (λ entry. nat_eq entry.1.number number) (entries_of body)
+names_in number body = count_by (λ dirent. nat_eq dirent.1.number number) (entries_of body)
 
 -- how many entries of all files name a number
 abbrev pub names_of : Tree → ℕ → ℕ
-names_of tree number = sum_by (λ entry. names_in number entry.1.body) (entries tree.nodes)
+names_of tree number = sum_by (λ dirent. names_in number dirent.1.body) (entries tree.nodes)
 
 abbrev pub is_directory : Body → Bool
 is_directory (Regular bytes mapped) = false
@@ -32,7 +32,7 @@ is_directory_at (Some node) = is_directory node.body
 -- how many entries of a directory name directories
 abbrev pub child_directories : Tree → Body → ℕ
 child_directories tree body =
-    count_by (λ entry. is_directory_at (node_at tree entry.1.number)) (entries_of body)
+    count_by (λ dirent. is_directory_at (node_at tree dirent.1.number)) (entries_of body)
 
 -- the directory that names a directory; 0, which is no file's number, of what is none
 abbrev pub parent_of : Body → ℕ

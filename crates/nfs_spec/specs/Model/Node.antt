@@ -9,13 +9,13 @@ use Rattle.nfs_types.specs.declared.handle.Stamp.{Stamp}
 use Rattle.nfs_types.specs.declared.verifier.Verifier.{Verifier}
 
 -- what a name in a directory leads to: a file's number, and the slot of the directory in which the name lies
-pub record DirectoryEntry : Type 0 where
+pub record DirentValue : Type 0 where
   pub number : ℕ
   pub slot : ℕ
 
 -- the entries of a directory under their names
 abbrev pub Entries : Type 0
-Entries = FinMap (slice_cmp nat_cmp) DirectoryEntry
+Entries = FinMap (slice_cmp nat_cmp) DirentValue
 
 -- What is in a file: of a regular one its bytes, and the indexes at which it has a block; of a directory its
 -- entries, how many blocks it spans, and the directory that names it; of a link its target.

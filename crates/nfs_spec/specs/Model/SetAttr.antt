@@ -153,7 +153,7 @@ pub record NotFound (tree : Tree) (status : Status) (outcome : Result (Unit {0})
   pub unchanged : next ≡ tree
 
 -- The file was found and stays as it is: its attributes are told, before and after the call the same.
-pub record LeftAlone (tree : Tree) (number : ℕ) (node : Node) (status : Status)
+pub record LeftUnchanged (tree : Tree) (number : ℕ) (node : Node) (status : Status)
     (outcome : Result (Unit {0}) Status) (object : WeakCacheData) (next : Tree) : Type 0 where
   pub refused : outcome ≡ Err status
   pub parts : object ≡ change_of number node node
@@ -171,7 +171,7 @@ abbrev pub SetOrLeft : Tree → ℕ → Node → Node → Option Status → Resu
     → Tree → Type 0
 SetOrLeft tree number node new None outcome object next = Changed tree number node new outcome object next
 SetOrLeft tree number node new (Some status) outcome object next =
-    LeftAlone tree number node status outcome object next
+    LeftUnchanged tree number node status outcome object next
 
 -- the tests on the handle come before all others
 abbrev pub SetFound : Tree → Ctx → NewAttributes → Option Moment → Result (ℕ × Node) Status

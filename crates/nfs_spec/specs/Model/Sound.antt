@@ -13,7 +13,7 @@ use Rattle.nfs_types.specs.declared.ctx.Moment.{Moment}
 use Rattle.nfs_types.specs.declared.handle.Stamp.{Stamp}
 use Rattle.nfs_types.specs.declared.verifier.Verifier.{Verifier}
 use Rattle.nfs_types.specs.Fits.{AreBytes, VerifierFits}
-use Rattle.nfs_spec.specs.Model.Node.{Node, Body, DirectoryEntry, Entries, Regular, Directory, Link}
+use Rattle.nfs_spec.specs.Model.Node.{Node, Body, DirentValue, Entries, Regular, Directory, Link}
 use Rattle.nfs_spec.specs.Model.Tree.{Geometry, Tree, node_at, used}
 use Rattle.nfs_spec.specs.Model.Names.{names_of, child_directories, is_directory, ancestor, entries_of, names_in}
 use Rattle.nfs_spec.specs.Model.Names.{parent_of}
@@ -64,10 +64,10 @@ pub record SoundBytes (bytes : List ℕ) (mapped : set.FinSet nat_cmp) : Type 0 
 -- spans.
 pub record SoundEntries (entries : Entries) (span : ℕ) : Type 0 where
   pub blocks : span ≤ MOST_SPAN
-  pub names : (name : List ℕ) (entry : DirectoryEntry) → map.get entries name ≡ Some entry → SoundName name
-  pub slots : (name : List ℕ) (entry : DirectoryEntry) → map.get entries name ≡ Some entry
-      → entry.slot < SLOTS_PER_BLOCK * span
-  pub distinct : (one other : List ℕ) (a b : DirectoryEntry) → map.get entries one ≡ Some a
+  pub names : (name : List ℕ) (dirent : DirentValue) → map.get entries name ≡ Some dirent → SoundName name
+  pub slots : (name : List ℕ) (dirent : DirentValue) → map.get entries name ≡ Some dirent
+      → dirent.slot < SLOTS_PER_BLOCK * span
+  pub distinct : (one other : List ℕ) (a b : DirentValue) → map.get entries one ≡ Some a
       → map.get entries other ≡ Some b → a.slot ≡ b.slot → one ≡ other
 
 -- the target of a link
@@ -139,7 +139,7 @@ pub record SoundAt (tree : Tree) (number : ℕ) (node : Node) : Type 0 where
   pub least : 0 < number
   pub most : number < tree.geometry.inodes
   pub itself : SoundNode node
-  pub names : All (λ entry. IsSome (node_at tree entry.1.number)) (entries_of node.body)
+  pub names : All (λ dirent. IsSome (node_at tree dirent.1.number)) (entries_of node.body)
   pub links : is_directory node.body ≡ false → SoundFileLinks tree number node
   pub directory : is_directory node.body ≡ true → SoundDirectoryLinks tree number node
 
@@ -152,7 +152,7 @@ pub record Sound (tree : Tree) : Type 0 where
   pub root_directory : is_directory root.body ≡ true
   pub root_stamp : root.stamp ≡ record { boot = 0; transaction = 0 }
   pub files : (number : ℕ) (node : Node) → node_at tree number ≡ Some node → SoundAt tree number node
-  pub room : used tree ≤ tree.geometry.data_blocks
+  pub has_space : used tree ≤ tree.geometry.data_blocks
 
 -- no file has the stamp of a later boot than this one
 abbrev pub IsMadeBy : ℕ → Tree → Type 0

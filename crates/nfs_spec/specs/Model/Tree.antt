@@ -25,7 +25,7 @@ with_node tree number node = record { geometry = tree.geometry; nodes = insert t
 
 -- the blocks that the files use together
 abbrev pub used : Tree → ℕ
-used tree = sum_by (λ entry. cost entry.1.body) (entries tree.nodes)
+used tree = sum_by (λ dirent. cost dirent.1.body) (entries tree.nodes)
 
 -- the data blocks that no file uses
 abbrev pub free : Tree → ℕ
@@ -38,4 +38,4 @@ cost_at (Some node) = cost node.body
 
 -- the blocks that a change from one tree to the other adds, file by file, whatever it frees of others
 abbrev pub need : Tree → Tree → ℕ
-need old new = sum_by (λ entry. cost entry.1.body - cost_at (node_at old entry.0)) (entries new.nodes)
+need old new = sum_by (λ dirent. cost dirent.1.body - cost_at (node_at old dirent.0)) (entries new.nodes)

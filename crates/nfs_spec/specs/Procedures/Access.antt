@@ -9,7 +9,7 @@ use Rattle.nfs_spec.specs.Model.Names.{is_directory}
 use Rattle.nfs_spec.specs.Model.Node.{Node}
 use Rattle.nfs_spec.specs.Model.Permissions.{has_right}
 use Rattle.nfs_spec.specs.Model.Tree.{Tree}
-use Rattle.nfs_spec.specs.Procedures.Told.{Tells}
+use Rattle.nfs_spec.specs.Procedures.StepForms.{Tells}
 use Rattle.nfs_spec.specs.declared.procedures.bits.TheConstants.{ACCESS_DELETE, ACCESS_EXECUTE, ACCESS_EXTEND}
 use Rattle.nfs_spec.specs.declared.procedures.bits.TheConstants.{ACCESS_LOOKUP, ACCESS_MODIFY, ACCESS_READ}
 
@@ -33,5 +33,5 @@ abbrev pub granted : Credential → ℕ → ℕ → Node → Result ℕ Status
 granted caller bits number node = Ok (bit_and bits (rights_on caller node))
 
 abbrev pub AccessStep : Tree → Ctx → List ℕ → ℕ → Result ℕ Status → Option Attributes → Tree → Type 0
-AccessStep tree ctx object bits outcome told next =
-    Tells tree object (granted ctx.credential bits) outcome told next
+AccessStep tree ctx object bits outcome file_attributes next =
+    Tells tree object (granted ctx.credential bits) outcome file_attributes next

@@ -9,9 +9,9 @@ use Rattle.nfs_types.specs.declared.ctx.Moment.{Moment}
 use Rattle.nfs_types.specs.declared.status.Status.{Status}
 use Rattle.nfs_types.specs.declared.status.Status.TheVariants as status
 use Rattle.nfs_spec.specs.Model.Names.{is_directory}
-use Rattle.nfs_spec.specs.Model.Node.{Node, Body, DirectoryEntry, Regular, Directory, Link}
+use Rattle.nfs_spec.specs.Model.Node.{Node, Body, DirentValue, Regular, Directory, Link}
 use Rattle.nfs_spec.specs.Model.Tree.{Tree, node_at, with_node, need, free}
-use Rattle.nfs_spec.specs.Procedures.Told.{Effect}
+use Rattle.nfs_spec.specs.Procedures.StepForms.{Effect}
 
 -- the tree without the file of a number
 abbrev pub without_node : Tree → ℕ → Tree
@@ -30,25 +30,25 @@ abbrev pub parent_links : Body → ℕ
 parent_links body = cond (is_directory body) 1 0
 
 -- a directory spans the block of each of its slots
-abbrev pub with_entry : List ℕ → DirectoryEntry → Body → Body
-with_entry name entry (Regular bytes mapped) = Regular bytes mapped
-with_entry name entry (Directory named span parent) =
-    Directory (insert named name entry) (max span (suc (entry.slot / SLOTS_PER_BLOCK))) parent
-with_entry name entry (Link target) = Link target
+abbrev pub with_dirent : List ℕ → DirentValue → Body → Body
+with_dirent name dirent (Regular bytes mapped) = Regular bytes mapped
+with_dirent name dirent (Directory named span parent) =
+    Directory (insert named name dirent) (max span (suc (dirent.slot / SLOTS_PER_BLOCK))) parent
+with_dirent name dirent (Link target) = Link target
 
 -- no directory shrinks
-abbrev pub without_entry : List ℕ → Body → Body
-without_entry name (Regular bytes mapped) = Regular bytes mapped
-without_entry name (Directory named span parent) = Directory (remove named name) span parent
-without_entry name (Link target) = Link target
+abbrev pub without_dirent : List ℕ → Body → Body
+without_dirent name (Regular bytes mapped) = Regular bytes mapped
+without_dirent name (Directory named span parent) = Directory (remove named name) span parent
+without_dirent name (Link target) = Link target
 
 -- a directory that gets a name for a file, in place of any that it led to
-abbrev pub entered : Moment → List ℕ → DirectoryEntry → Body → Node → Node
-entered moment name entry file directory = record directory {
+abbrev pub entered : Moment → List ℕ → DirentValue → Body → Node → Node
+entered moment name dirent file directory = record directory {
   nlink = directory.nlink + parent_links file;
   mtime = moment;
   ctime = moment;
-  body = with_entry name entry directory.body;
+  body = with_dirent name dirent directory.body;
 }
 
 -- a directory that loses the name of a file
@@ -57,7 +57,7 @@ departed moment name file directory = record directory {
   nlink = directory.nlink - parent_links file;
   mtime = moment;
   ctime = moment;
-  body = without_entry name directory.body;
+  body = without_dirent name directory.body;
 }
 
 -- a directory is gone with its name, and another file with its last one
@@ -77,15 +77,15 @@ without_name tree moment directory name (Some file) =
     unnamed (changed_at tree directory (departed moment name file.1.body)) moment file.0 file.1
 
 -- a change adds more blocks than are free
-abbrev pub lacks_room : Tree → Tree → Bool
-lacks_room old new = nat_lt (free old) (need old new)
+abbrev pub lacks_space : Tree → Tree → Bool
+lacks_space old new = nat_lt (free old) (need old new)
 
 -- what is done only where the blocks reach (NFS3ERR_NOSPC)
-abbrev pub if_room : {A : Type 0} → Tree → Effect A → Result (Effect A) Status
-if_room tree effect = cond (lacks_room tree effect.next) (Err status.NoSpc) (Ok effect)
+abbrev pub if_space : {A : Type 0} → Tree → Effect A → Result (Effect A) Status
+if_space tree effect = cond (lacks_space tree effect.next) (Err status.NoSpc) (Ok effect)
 
 -- what is done with a new entry, where there is one to be had and the blocks reach
-abbrev pub if_entry : {A : Type 0} → Tree → Option DirectoryEntry → (DirectoryEntry → Effect A)
+abbrev pub if_dirent : {A : Type 0} → Tree → Option DirentValue → (DirentValue → Effect A)
     → Result (Effect A) Status
-if_entry tree None effect = Err status.NoSpc
-if_entry tree (Some entry) effect = if_room tree (effect entry)
+if_dirent tree None effect = Err status.NoSpc
+if_dirent tree (Some dirent) effect = if_space tree (effect dirent)

@@ -13,7 +13,7 @@ use Rattle.nfs_spec.specs.Model.Permissions.{may_write_file}
 use Rattle.nfs_spec.specs.Model.SetAttr.{first_of_tests, is_regular}
 use Rattle.nfs_spec.specs.Model.Tree.{Tree}
 use Rattle.nfs_spec.specs.Procedures.FirstTests.{unless}
-use Rattle.nfs_spec.specs.Procedures.Told.{Acts, Effect}
+use Rattle.nfs_spec.specs.Procedures.StepForms.{Acts, Effect}
 
 abbrev pub commit_refusal : Credential → Node → Option Status
 commit_refusal caller node = first_of_tests (
@@ -27,4 +27,4 @@ commit tree ctx number node =
     (Ok (record { answer = boot_verifier ctx.boot; next = tree }))
 
 abbrev pub CommitStep : Tree → Ctx → List ℕ → Result Verifier Status → WeakCacheData → Tree → Type 0
-CommitStep tree ctx file outcome told next = Acts tree file (commit tree ctx) outcome told next
+CommitStep tree ctx file outcome file_attributes next = Acts tree file (commit tree ctx) outcome file_attributes next

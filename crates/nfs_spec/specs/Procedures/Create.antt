@@ -17,10 +17,10 @@ use Rattle.nfs_types.specs.declared.verifier.Verifier.{Verifier}
 use Rattle.nfs_spec.specs.Model.Node.{Node, Body, Regular}
 use Rattle.nfs_spec.specs.Model.SetAttr.{first_of_tests, given, is_regular, refusal, with_attributes}
 use Rattle.nfs_spec.specs.Model.Tree.{Tree, with_node}
-use Rattle.nfs_spec.specs.Procedures.FirstTests.{may_change, place_tests, unless}
+use Rattle.nfs_spec.specs.Procedures.FirstTests.{may_change, dentry_tests, unless}
 use Rattle.nfs_spec.specs.Procedures.Fresh.{created, fresh, make, nothing_given}
 use Rattle.nfs_spec.specs.Procedures.Places.{is_own_name, named_file}
-use Rattle.nfs_spec.specs.Procedures.Told.{Acts, Effect}
+use Rattle.nfs_spec.specs.Procedures.StepForms.{Acts, Effect}
 
 abbrev pub no_bytes : Body
 no_bytes = Regular [] set.empty
@@ -72,11 +72,11 @@ create_at tree ctx how number at directory name (Some file) = create_over tree c
 
 abbrev pub create : Tree → Ctx → List ℕ → CreateHow → Option ℕ → ℕ → Node → Result (Effect Created) Status
 create tree ctx name how number at directory =
-    unless (first_of_tests (place_tests (may_change ctx.credential directory) directory name
+    unless (first_of_tests (dentry_tests (may_change ctx.credential directory) directory name
     ++ (is_own_name name, status.Exist) ∷ []))
     (create_at tree ctx how number at directory name (named_file tree directory name))
 
 abbrev pub CreateStep : Tree → Ctx → List ℕ → List ℕ → CreateHow → Option ℕ → Result Created Status
     → WeakCacheData → Tree → Type 0
-CreateStep tree ctx directory name how number outcome told next =
-    Acts tree directory (create tree ctx name how number) outcome told next
+CreateStep tree ctx directory name how number outcome file_attributes next =
+    Acts tree directory (create tree ctx name how number) outcome file_attributes next

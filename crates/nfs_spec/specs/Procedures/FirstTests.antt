@@ -51,8 +51,8 @@ abbrev pub may_change : Credential → Node → Bool
 may_change caller directory = has_right WRITE_RIGHT caller directory && may_search caller directory
 
 -- the tests of a name in a directory, where the last says whether the caller may do what is asked
-abbrev pub place_tests : Bool → Node → List ℕ → List (Bool × Status)
-place_tests allowed directory name =
+abbrev pub dentry_tests : Bool → Node → List ℕ → List (Bool × Status)
+dentry_tests allowed directory name =
     (is_no_directory directory, status.NotDir)
     ∷ (is_no_name name, status.Acces)
     ∷ (is_long name, status.NameTooLong)

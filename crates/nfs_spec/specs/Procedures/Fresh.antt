@@ -7,12 +7,12 @@ use Rattle.nfs_types.specs.declared.reply.Created.{Created}
 use Rattle.nfs_types.specs.declared.status.Status.{Status}
 use Rattle.nfs_types.specs.declared.verifier.Verifier.{Verifier}
 use Rattle.nfs_spec.specs.Model.Attributes.{attributes_of}
-use Rattle.nfs_spec.specs.Model.Node.{Node, Body, DirectoryEntry}
+use Rattle.nfs_spec.specs.Model.Node.{Node, Body, DirentValue}
 use Rattle.nfs_spec.specs.Model.SetAttr.{refusal, with_attributes}
 use Rattle.nfs_spec.specs.Model.Tree.{Tree, node_at, with_node}
-use Rattle.nfs_spec.specs.Procedures.Changes.{changed_at, entered, if_entry, parent_links}
+use Rattle.nfs_spec.specs.Procedures.Changes.{changed_at, entered, if_dirent, parent_links}
 use Rattle.nfs_spec.specs.Procedures.Places.{least_free_slot}
-use Rattle.nfs_spec.specs.Procedures.Told.{Effect, handle_of}
+use Rattle.nfs_spec.specs.Procedures.StepForms.{Effect, handle_of}
 use Rattle.nfs_spec.specs.Procedures.FirstTests.{unless}
 
 -- a number that a file may have, and none has
@@ -62,10 +62,10 @@ abbrev pub made : Ctx → NewAttributes → Node → Node
 made ctx wanted node = with_attributes ctx.moment wanted node
 
 -- the new file's number and the slot of its name, if there are both
-abbrev pub new_entry : Option ℕ → Option ℕ → Option DirectoryEntry
-new_entry (Some number) (Some slot) = Some (record { number = number; slot = slot })
-new_entry None slot = None
-new_entry (Some number) None = None
+abbrev pub new_dirent : Option ℕ → Option ℕ → Option DirentValue
+new_dirent (Some number) (Some slot) = Some (record { number = number; slot = slot })
+new_dirent None slot = None
+new_dirent (Some number) None = None
 
 -- what is told of a file that was made or found
 abbrev pub created : ℕ → Node → Created
@@ -75,10 +75,10 @@ created number node = record {
 }
 
 -- a new file under its number, and its name in its directory
-abbrev pub with_new : Tree → Ctx → ℕ → List ℕ → Node → DirectoryEntry → Effect Created
-with_new tree ctx at name node entry = record {
-  answer = created entry.number node;
-  next = with_node (changed_at tree at (entered ctx.moment name entry node.body)) entry.number node;
+abbrev pub with_new : Tree → Ctx → ℕ → List ℕ → Node → DirentValue → Effect Created
+with_new tree ctx at name node dirent = record {
+  answer = created dirent.number node;
+  next = with_node (changed_at tree at (entered ctx.moment name dirent node.body)) dirent.number node;
 }
 
 -- A new file, where its attributes may be set so, and there are a number, a slot and the blocks for it.
@@ -86,5 +86,5 @@ abbrev pub make : Tree → Ctx → Option ℕ → ℕ → Node → List ℕ → 
     → Result (Effect Created) Status
 make tree ctx number at directory name wanted node =
     unless (refusal ctx wanted None node)
-    (if_entry tree (new_entry number (least_free_slot directory.body))
+    (if_dirent tree (new_dirent number (least_free_slot directory.body))
     (with_new tree ctx at name (made ctx wanted node)))

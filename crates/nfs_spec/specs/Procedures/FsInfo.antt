@@ -6,7 +6,7 @@ use Rattle.nfs_types.specs.declared.attributes.Attributes.{Attributes}
 use Rattle.nfs_types.specs.declared.reply.FileSystemInfo.{FileSystemInfo}
 use Rattle.nfs_types.specs.declared.status.Status.{Status}
 use Rattle.nfs_spec.specs.Model.Tree.{Tree}
-use Rattle.nfs_spec.specs.Procedures.Told.{Tells}
+use Rattle.nfs_spec.specs.Procedures.StepForms.{Tells}
 use Rattle.nfs_spec.specs.declared.procedures.bits.TheConstants.{HAS_LINKS, HAS_SYMBOLIC_LINKS, IS_HOMOGENEOUS}
 use Rattle.nfs_spec.specs.declared.procedures.bits.TheConstants.{SETS_TIMES}
 
@@ -25,5 +25,5 @@ file_system_info = record {
 }
 
 abbrev pub FsInfoStep : Tree → List ℕ → Result FileSystemInfo Status → Option Attributes → Tree → Type 0
-FsInfoStep tree object outcome told next =
-    Tells tree object (λ number node. Ok file_system_info) outcome told next
+FsInfoStep tree object outcome file_attributes next =
+    Tells tree object (λ number node. Ok file_system_info) outcome file_attributes next

@@ -6,7 +6,7 @@ use Rattle.nfs_types.specs.declared.attributes.Attributes.{Attributes}
 use Rattle.nfs_types.specs.declared.reply.FileSystemSpace.{FileSystemSpace}
 use Rattle.nfs_types.specs.declared.status.Status.{Status}
 use Rattle.nfs_spec.specs.Model.Tree.{Tree, free}
-use Rattle.nfs_spec.specs.Procedures.Told.{Tells}
+use Rattle.nfs_spec.specs.Procedures.StepForms.{Tells}
 
 -- the numbers that files may have: 0 is none's
 abbrev pub all_numbers : Tree → ℕ
@@ -28,5 +28,5 @@ space_of tree = record {
 }
 
 abbrev pub FsStatStep : Tree → List ℕ → Result FileSystemSpace Status → Option Attributes → Tree → Type 0
-FsStatStep tree object outcome told next =
-    Tells tree object (λ number node. Ok (space_of tree)) outcome told next
+FsStatStep tree object outcome file_attributes next =
+    Tells tree object (λ number node. Ok (space_of tree)) outcome file_attributes next

@@ -9,15 +9,15 @@ use Rattle.nfs_types.specs.declared.status.Status.{Status}
 use Rattle.nfs_types.specs.declared.status.Status.TheVariants as status
 use Rattle.nfs_spec.specs.Model.Find.{find_file}
 use Rattle.nfs_spec.specs.Model.Names.{is_directory}
-use Rattle.nfs_spec.specs.Model.Node.{Node, DirectoryEntry}
+use Rattle.nfs_spec.specs.Model.Node.{Node, DirentValue}
 use Rattle.nfs_spec.specs.Model.SetAttr.{first_of_tests}
 use Rattle.nfs_spec.specs.Model.Tree.{Tree}
-use Rattle.nfs_spec.specs.Procedures.Changes.{changed_at, entered, if_entry}
-use Rattle.nfs_spec.specs.Procedures.FirstTests.{after_first, found_then, may_change, place_tests, unless}
-use Rattle.nfs_spec.specs.Procedures.Fresh.{new_entry}
+use Rattle.nfs_spec.specs.Procedures.Changes.{changed_at, entered, if_dirent}
+use Rattle.nfs_spec.specs.Procedures.FirstTests.{after_first, found_then, may_change, dentry_tests, unless}
+use Rattle.nfs_spec.specs.Procedures.Fresh.{new_dirent}
 use Rattle.nfs_spec.specs.Procedures.MkDir.{is_full, is_there}
 use Rattle.nfs_spec.specs.Procedures.Places.{least_free_slot, named_file}
-use Rattle.nfs_spec.specs.Procedures.Told.{Effect, answer_of, change_told, told_in, tree_after}
+use Rattle.nfs_spec.specs.Procedures.StepForms.{Effect, answer_of, change_between, attributes_in, tree_after}
 
 -- the tests of the file, of its new name and of what that leads to, behind those of the name's place
 abbrev pub link_tests : List ℕ → Node → Option (ℕ × Node) → List (Bool × Status)
@@ -29,7 +29,7 @@ link_tests name node found =
 
 abbrev pub link_refusal : Tree → Credential → List ℕ → Node → Node → Option Status
 link_refusal tree caller name node directory = first_of_tests (
-    place_tests (may_change caller directory) directory name
+    dentry_tests (may_change caller directory) directory name
     ++ link_tests name node (named_file tree directory name))
 
 -- a file that gets one name more
@@ -37,16 +37,16 @@ abbrev pub linked : Moment → Node → Node
 linked moment node = record node { nlink = suc node.nlink; ctime = moment }
 
 -- the name in its directory, and the file with it
-abbrev pub with_link : Tree → Moment → List ℕ → ℕ → Node → ℕ → DirectoryEntry → Effect (Unit {0})
-with_link tree moment name number node at entry = record {
+abbrev pub with_link : Tree → Moment → List ℕ → ℕ → Node → ℕ → DirentValue → Effect (Unit {0})
+with_link tree moment name number node at dirent = record {
   answer = tt;
-  next = changed_at (changed_at tree at (entered moment name entry node.body)) number (linked moment);
+  next = changed_at (changed_at tree at (entered moment name dirent node.body)) number (linked moment);
 }
 
 abbrev pub link : Tree → Ctx → List ℕ → ℕ → Node → ℕ → Node → Result (Effect (Unit {0})) Status
 link tree ctx name number node at directory =
     unless (link_refusal tree ctx.credential name node directory)
-    (if_entry tree (new_entry (Some number) (least_free_slot directory.body))
+    (if_dirent tree (new_dirent (Some number) (least_free_slot directory.body))
     (with_link tree ctx.moment name number node at))
 
 -- what comes of the call: the file's handle is tested first, and then the directory's
@@ -58,9 +58,9 @@ linking tree ctx file directory name =
 -- Both files are told of.
 pub record LinkStep (tree : Tree) (ctx : Ctx) (file directory name : List ℕ)
     (outcome : Result (Unit {0}) Status)
-    (told : Option Attributes) (directory_told : WeakCacheData) (next : Tree) : Type 0 where
+    (file_attributes : Option Attributes) (directory_attributes : WeakCacheData) (next : Tree) : Type 0 where
   pub answered : outcome ≡ answer_of (linking tree ctx file directory name)
   pub leads : next ≡ tree_after tree (linking tree ctx file directory name)
-  pub parts : told ≡ told_in next (find_file tree file)
-  pub directory_parts : directory_told
-      ≡ change_told next (after_first (find_file tree file) (find_file tree directory))
+  pub parts : file_attributes ≡ attributes_in next (find_file tree file)
+  pub directory_parts : directory_attributes
+      ≡ change_between next (after_first (find_file tree file) (find_file tree directory))

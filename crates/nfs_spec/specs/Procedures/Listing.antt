@@ -3,9 +3,9 @@ use Rattle.std.specs.Prelude.{ℕ, ◌+◌, ◌-◌, ◌*◌, ◌/◌, min, Bool
 use Rattle.std.specs.Prelude.{nat_eq, nat_le, nat_lt, Option, replicate}
 use Rattle.std.specs.List.{filter, filter_map, find, range_with_len}
 use Rattle.std.specs.Option.{option_map}
-use Rattle.base.specs.declared.TheConstants.{ENTRY_BYTES, LISTING_BYTES, LISTING_FRAME, SLOTS_PER_BLOCK}
+use Rattle.base.specs.declared.TheConstants.{LISTED_ITEM_BYTES, LISTING_BYTES, LISTING_FRAME, SLOTS_PER_BLOCK}
 use Rattle.nfs_types.specs.Verifier.{is_zeros}
-use Rattle.nfs_types.specs.declared.entries.ListedEntry.{ListedEntry}
+use Rattle.nfs_types.specs.declared.entries.ListedItem.{ListedItem}
 use Rattle.nfs_types.specs.declared.verifier.TheConstants.{VERIFIER_BYTES}
 use Rattle.nfs_types.specs.declared.verifier.Verifier.{Verifier}
 use Rattle.nfs_spec.specs.Model.Names.{entries_of, parent_of}
@@ -20,53 +20,53 @@ slots_of (Directory named span parent) = range_with_len 0 (SLOTS_PER_BLOCK * spa
 slots_of (Link target) = []
 
 -- what lies in a slot
-abbrev pub listed_in : Body → ℕ → Option ListedEntry
+abbrev pub listed_in : Body → ℕ → Option ListedItem
 listed_in directory slot =
-    option_map (λ entry. record {
-      number = entry.1.number;
-      name = entry.0;
+    option_map (λ dirent. record {
+      number = dirent.1.number;
+      name = dirent.0;
       cookie = slot + FIRST_SLOT_COOKIE;
     })
-    (find (λ entry. nat_eq entry.1.slot slot) (entries_of directory))
+    (find (λ dirent. nat_eq dirent.1.slot slot) (entries_of directory))
 
 -- all that a directory lists, by rising cookies: itself, its parent, and the names by their slots
-abbrev pub listed : ℕ → Body → List ListedEntry
+abbrev pub listed : ℕ → Body → List ListedItem
 listed number directory =
     record { number = number; name = DOT ∷ []; cookie = ITSELF_COOKIE }
     ∷ record { number = parent_of directory; name = DOT ∷ DOT ∷ []; cookie = PARENT_COOKIE }
     ∷ filter_map (listed_in directory) (slots_of directory)
 
 -- what is listed behind a cookie, which may be any number
-abbrev pub listed_behind : ℕ → ℕ → Body → List ListedEntry
-listed_behind cookie number directory = filter (λ entry. nat_lt cookie entry.cookie) (listed number directory)
+abbrev pub listed_behind : ℕ → ℕ → Body → List ListedItem
+listed_behind cookie number directory = filter (λ dirent. nat_lt cookie dirent.cookie) (listed number directory)
 
 -- a name with its padding (RFC 4506, section 4.11)
 abbrev pub padded : List ℕ → ℕ
 padded name = (length name + 3) / 4 * 4
 
-abbrev pub entry_bytes : ListedEntry → ℕ
-entry_bytes entry = ENTRY_BYTES + padded entry.name
+abbrev pub listed_bytes : ListedItem → ℕ
+listed_bytes dirent = LISTED_ITEM_BYTES + padded dirent.name
 
 -- the longest beginning whose entries have no more bytes together than there is room for
-abbrev pub fitting : (ListedEntry → ℕ) → ℕ → List ListedEntry → List ListedEntry
-fitting bytes room [] = []
-fitting bytes room (entry ∷ entries) =
-    cond (nat_le (bytes entry) room) (entry ∷ fitting bytes (room - bytes entry) entries) []
+abbrev pub fitting : (ListedItem → ℕ) → ℕ → List ListedItem → List ListedItem
+fitting bytes budget [] = []
+fitting bytes budget (dirent ∷ entries) =
+    cond (nat_le (bytes dirent) budget) (dirent ∷ fitting bytes (budget - bytes dirent) entries) []
 
 -- the bytes that a call asks for, as far as one call may
 abbrev pub asked_bytes : ℕ → ℕ
 asked_bytes count = min count LISTING_BYTES
 
 -- what of so many bytes is left for entries
-abbrev pub entry_room : ℕ → ℕ
-entry_room count = asked_bytes count - LISTING_FRAME
+abbrev pub listing_budget : ℕ → ℕ
+listing_budget count = asked_bytes count - LISTING_FRAME
 
 -- A cookie that goes on from an earlier listing comes with that listing's verifier, and this is always zeros.
 abbrev pub is_bad_cookie : ℕ → Verifier → Bool
 is_bad_cookie cookie verifier = not (nat_eq cookie 0) && not (is_zeros verifier)
 
 -- there is no room for a listing at all, or for the first of the entries that are left
-abbrev pub is_too_small : ℕ → List ListedEntry → List ListedEntry → Bool
+abbrev pub is_too_small : ℕ → List ListedItem → List ListedItem → Bool
 is_too_small count left given =
     nat_lt (asked_bytes count) LISTING_FRAME || nat_lt 0 (length left) && nat_eq (length given) 0
 
@@ -75,5 +75,5 @@ abbrev pub listing_verifier : Verifier
 listing_verifier = record { bytes = replicate VERIFIER_BYTES 0 }
 
 -- no entry is left behind those that are given
-abbrev pub is_end : List ListedEntry → List ListedEntry → Bool
+abbrev pub is_end : List ListedItem → List ListedItem → Bool
 is_end left given = nat_eq (length given) (length left)

@@ -11,10 +11,10 @@ use Rattle.nfs_types.specs.declared.status.Status.TheVariants as status
 use Rattle.nfs_spec.specs.Model.Node.{Node, Directory}
 use Rattle.nfs_spec.specs.Model.SetAttr.{first_of_tests}
 use Rattle.nfs_spec.specs.Model.Tree.{Tree}
-use Rattle.nfs_spec.specs.Procedures.FirstTests.{may_change, place_tests, unless}
+use Rattle.nfs_spec.specs.Procedures.FirstTests.{may_change, dentry_tests, unless}
 use Rattle.nfs_spec.specs.Procedures.Fresh.{fresh, make, without_size}
 use Rattle.nfs_spec.specs.Procedures.Places.{is_own_name, named_file}
-use Rattle.nfs_spec.specs.Procedures.Told.{Acts, Effect}
+use Rattle.nfs_spec.specs.Procedures.StepForms.{Acts, Effect}
 
 -- the name is there already, or is one that each directory has
 abbrev pub is_there : List ℕ → Option (ℕ × Node) → Bool
@@ -34,12 +34,12 @@ mkdir_tests name directory found =
 abbrev pub make_directory : Tree → Ctx → List ℕ → NewAttributes → Option ℕ → ℕ → Node
     → Result (Effect Created) Status
 make_directory tree ctx name wanted number at directory =
-    unless (first_of_tests (place_tests (may_change ctx.credential directory) directory name
+    unless (first_of_tests (dentry_tests (may_change ctx.credential directory) directory name
     ++ mkdir_tests name directory (named_file tree directory name)))
     (make tree ctx number at directory name (without_size wanted)
     (fresh ctx NEW_DIRECTORY_MODE None (Directory map.empty 0 at)))
 
 abbrev pub MkDirStep : Tree → Ctx → List ℕ → List ℕ → NewAttributes → Option ℕ → Result Created Status
     → WeakCacheData → Tree → Type 0
-MkDirStep tree ctx directory name wanted number outcome told next =
-    Acts tree directory (make_directory tree ctx name wanted number) outcome told next
+MkDirStep tree ctx directory name wanted number outcome file_attributes next =
+    Acts tree directory (make_directory tree ctx name wanted number) outcome file_attributes next

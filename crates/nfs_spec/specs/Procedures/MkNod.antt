@@ -5,9 +5,9 @@ use Rattle.nfs_types.specs.declared.reply.Created.{Created}
 use Rattle.nfs_types.specs.declared.status.Status.{Status}
 use Rattle.nfs_types.specs.declared.status.Status.TheVariants as status
 use Rattle.nfs_spec.specs.Model.Tree.{Tree}
-use Rattle.nfs_spec.specs.Procedures.Told.{Acts}
+use Rattle.nfs_spec.specs.Procedures.StepForms.{Acts}
 
 -- refused behind the tests of the handle, whatever this names
 abbrev pub MkNodStep : Tree → List ℕ → Result Created Status → WeakCacheData → Tree → Type 0
-MkNodStep tree directory outcome told next =
-    Acts tree directory (λ number node. Err status.NotSupp) outcome told next
+MkNodStep tree directory outcome file_attributes next =
+    Acts tree directory (λ number node. Err status.NotSupp) outcome file_attributes next

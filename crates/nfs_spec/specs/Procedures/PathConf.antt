@@ -5,7 +5,7 @@ use Rattle.nfs_types.specs.declared.attributes.Attributes.{Attributes}
 use Rattle.nfs_types.specs.declared.reply.PathLimits.{PathLimits}
 use Rattle.nfs_types.specs.declared.status.Status.{Status}
 use Rattle.nfs_spec.specs.Model.Tree.{Tree}
-use Rattle.nfs_spec.specs.Procedures.Told.{Tells}
+use Rattle.nfs_spec.specs.Procedures.StepForms.{Tells}
 
 -- long names are refused and never cut, and names differ by case
 abbrev pub path_limits : PathLimits
@@ -19,5 +19,5 @@ path_limits = record {
 }
 
 abbrev pub PathConfStep : Tree → List ℕ → Result PathLimits Status → Option Attributes → Tree → Type 0
-PathConfStep tree object outcome told next =
-    Tells tree object (λ number node. Ok path_limits) outcome told next
+PathConfStep tree object outcome file_attributes next =
+    Tells tree object (λ number node. Ok path_limits) outcome file_attributes next

@@ -5,7 +5,7 @@ use Rattle.std.specs.List.{list_any, list_all, find, range_with_len}
 use Rattle.std.specs.Option.{option_map, option_and_then}
 use Rattle.base.specs.declared.TheConstants.{MOST_SPAN, SLOTS_PER_BLOCK}
 use Rattle.nfs_spec.specs.Model.Names.{entries_of, is_directory}
-use Rattle.nfs_spec.specs.Model.Node.{Node, Body, DirectoryEntry, Regular, Directory, Link}
+use Rattle.nfs_spec.specs.Model.Node.{Node, Body, DirentValue, Regular, Directory, Link}
 use Rattle.nfs_spec.specs.Model.Sound.{DOT}
 use Rattle.nfs_spec.specs.Model.SetAttr.{given}
 use Rattle.nfs_spec.specs.Model.Tree.{Tree, node_at}
@@ -27,10 +27,10 @@ abbrev pub is_own_name : List ℕ → Bool
 is_own_name name = is_itself name || is_parent name
 
 -- what a name in a directory leads to
-abbrev pub entry_at : Body → List ℕ → Option DirectoryEntry
-entry_at (Regular bytes mapped) name = None
-entry_at (Directory named span parent) name = get named name
-entry_at (Link target) name = None
+abbrev pub dirent_at : Body → List ℕ → Option DirentValue
+dirent_at (Regular bytes mapped) name = None
+dirent_at (Directory named span parent) name = get named name
+dirent_at (Link target) name = None
 
 -- the file of a number, with its number
 abbrev pub file_at : Tree → ℕ → Option (ℕ × Node)
@@ -39,7 +39,7 @@ file_at tree number = option_map (λ node. (number, node)) (node_at tree number)
 -- the file that a name in a directory leads to
 abbrev pub named_file : Tree → Node → List ℕ → Option (ℕ × Node)
 named_file tree directory name =
-    option_and_then (λ entry. file_at tree entry.number) (entry_at directory.body name)
+    option_and_then (λ dirent. file_at tree dirent.number) (dirent_at directory.body name)
 
 -- there is such a file, and it is a directory
 abbrev pub is_found_directory : Option (ℕ × Node) → Bool
@@ -51,7 +51,7 @@ is_found_other found = given found (λ file. not (is_directory file.1.body))
 
 -- a name of the directory lies in the slot
 abbrev pub is_taken_slot : Body → ℕ → Bool
-is_taken_slot directory slot = list_any (λ entry. nat_eq entry.1.slot slot) (entries_of directory)
+is_taken_slot directory slot = list_any (λ dirent. nat_eq dirent.1.slot slot) (entries_of directory)
 
 -- the least slot in which no name lies, of all that a directory may ever have
 abbrev pub least_free_slot : Body → Option ℕ

@@ -13,7 +13,7 @@ use Rattle.nfs_spec.specs.Model.Permissions.{has_right}
 use Rattle.nfs_spec.specs.Model.SetAttr.{first_of_tests, is_regular}
 use Rattle.nfs_spec.specs.Model.Tree.{Tree}
 use Rattle.nfs_spec.specs.Procedures.FirstTests.{unless}
-use Rattle.nfs_spec.specs.Procedures.Told.{Tells}
+use Rattle.nfs_spec.specs.Procedures.StepForms.{Tells}
 
 -- Of a regular file: who may execute it may read it, and its owner always may (RFC 1813, section 4.4).
 abbrev pub may_read_file : Credential → Node → Bool
@@ -51,5 +51,5 @@ read caller offset count number node =
 
 abbrev pub ReadStep : Tree → Ctx → List ℕ → ℕ → ℕ → Result ReadBytes Status → Option Attributes → Tree
     → Type 0
-ReadStep tree ctx file offset count outcome told next =
-    Tells tree file (read ctx.credential offset count) outcome told next
+ReadStep tree ctx file offset count outcome file_attributes next =
+    Tells tree file (read ctx.credential offset count) outcome file_attributes next

@@ -3,7 +3,7 @@ use Rattle.std.specs.Prelude.{ℕ, not, List, [], ◌∷◌, Option, Result, Ok}
 use Rattle.nfs_types.specs.declared.attributes.Attributes.{Attributes}
 use Rattle.nfs_types.specs.declared.ctx.Credential.{Credential}
 use Rattle.nfs_types.specs.declared.ctx.Ctx.{Ctx}
-use Rattle.nfs_types.specs.declared.entries.ListedEntry.{ListedEntry}
+use Rattle.nfs_types.specs.declared.entries.ListedItem.{ListedItem}
 use Rattle.nfs_types.specs.declared.reply.Listed.{Listed}
 use Rattle.nfs_types.specs.declared.status.Status.{Status}
 use Rattle.nfs_types.specs.declared.status.Status.TheVariants as status
@@ -12,12 +12,12 @@ use Rattle.nfs_spec.specs.Model.Node.{Node}
 use Rattle.nfs_spec.specs.Model.SetAttr.{first_of_tests}
 use Rattle.nfs_spec.specs.Model.Tree.{Tree}
 use Rattle.nfs_spec.specs.Procedures.FirstTests.{is_no_directory, may_list, unless}
-use Rattle.nfs_spec.specs.Procedures.Listing.{entry_bytes, entry_room, fitting, is_bad_cookie, is_end, is_too_small}
+use Rattle.nfs_spec.specs.Procedures.Listing.{listed_bytes, listing_budget, fitting, is_bad_cookie, is_end, is_too_small}
 use Rattle.nfs_spec.specs.Procedures.Listing.{listed_behind, listing_verifier}
-use Rattle.nfs_spec.specs.Procedures.Told.{Tells}
+use Rattle.nfs_spec.specs.Procedures.StepForms.{Tells}
 
 -- why nothing is listed, by what is left and what of it would be given
-abbrev pub listing_refusal : Credential → ℕ → Verifier → ℕ → Node → List ListedEntry → List ListedEntry
+abbrev pub listing_refusal : Credential → ℕ → Verifier → ℕ → Node → List ListedItem → List ListedItem
     → Option Status
 listing_refusal caller cookie verifier count directory left given = first_of_tests (
     (is_no_directory directory, status.NotDir)
@@ -29,11 +29,11 @@ listing_refusal caller cookie verifier count directory left given = first_of_tes
 abbrev pub list : Credential → ℕ → Verifier → ℕ → ℕ → Node → Result Listed Status
 list caller cookie verifier count number directory =
     let left = listed_behind cookie number directory.body in
-    let given = fitting entry_bytes (entry_room count) left in
+    let given = fitting listed_bytes (listing_budget count) left in
     unless (listing_refusal caller cookie verifier count directory left given)
     (Ok (record { verifier = listing_verifier; entries = given; eof = is_end left given }))
 
 abbrev pub ReadDirStep : Tree → Ctx → List ℕ → ℕ → Verifier → ℕ → Result Listed Status → Option Attributes
     → Tree → Type 0
-ReadDirStep tree ctx directory cookie verifier count outcome told next =
-    Tells tree directory (list ctx.credential cookie verifier count) outcome told next
+ReadDirStep tree ctx directory cookie verifier count outcome file_attributes next =
+    Tells tree directory (list ctx.credential cookie verifier count) outcome file_attributes next

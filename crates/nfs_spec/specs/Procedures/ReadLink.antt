@@ -5,7 +5,7 @@ use Rattle.nfs_types.specs.declared.status.Status.{Status}
 use Rattle.nfs_types.specs.declared.status.Status.TheVariants as status
 use Rattle.nfs_spec.specs.Model.Node.{Body, Regular, Directory, Link}
 use Rattle.nfs_spec.specs.Model.Tree.{Tree}
-use Rattle.nfs_spec.specs.Procedures.Told.{Tells}
+use Rattle.nfs_spec.specs.Procedures.StepForms.{Tells}
 
 -- the target of a link, and of nothing else
 abbrev pub target_of : Body → Result (List ℕ) Status
@@ -14,5 +14,5 @@ target_of (Directory named span parent) = Err status.Inval
 target_of (Link target) = Ok target
 
 abbrev pub ReadLinkStep : Tree → List ℕ → Result (List ℕ) Status → Option Attributes → Tree → Type 0
-ReadLinkStep tree link outcome told next =
-    Tells tree link (λ number node. target_of node.body) outcome told next
+ReadLinkStep tree link outcome file_attributes next =
+    Tells tree link (λ number node. target_of node.body) outcome file_attributes next

@@ -9,9 +9,9 @@ use Rattle.nfs_spec.specs.Model.Node.{Node}
 use Rattle.nfs_spec.specs.Model.SetAttr.{first_of_tests}
 use Rattle.nfs_spec.specs.Model.Tree.{Tree}
 use Rattle.nfs_spec.specs.Procedures.Changes.{without_name}
-use Rattle.nfs_spec.specs.Procedures.FirstTests.{may_change, place_tests, unless}
+use Rattle.nfs_spec.specs.Procedures.FirstTests.{may_change, dentry_tests, unless}
 use Rattle.nfs_spec.specs.Procedures.Places.{is_found_directory, is_own_name, named_file}
-use Rattle.nfs_spec.specs.Procedures.Told.{Acts, Effect}
+use Rattle.nfs_spec.specs.Procedures.StepForms.{Acts, Effect}
 
 -- the tests of the name and what it leads to, behind those of its place
 abbrev pub remove_tests : List ℕ → Option (ℕ × Node) → List (Bool × Status)
@@ -23,7 +23,7 @@ remove_tests name found =
 
 abbrev pub remove_refusal : Credential → Node → List ℕ → Option (ℕ × Node) → Option Status
 remove_refusal caller directory name found = first_of_tests (
-    place_tests (may_change caller directory) directory name ++ remove_tests name found)
+    dentry_tests (may_change caller directory) directory name ++ remove_tests name found)
 
 -- the name goes, and with its last name the file
 abbrev pub remove : Tree → Ctx → List ℕ → ℕ → Node → Result (Effect (Unit {0})) Status
@@ -36,5 +36,5 @@ remove tree ctx name at directory =
 
 abbrev pub RemoveStep : Tree → Ctx → List ℕ → List ℕ → Result (Unit {0}) Status → WeakCacheData → Tree
     → Type 0
-RemoveStep tree ctx directory name outcome told next =
-    Acts tree directory (remove tree ctx name) outcome told next
+RemoveStep tree ctx directory name outcome file_attributes next =
+    Acts tree directory (remove tree ctx name) outcome file_attributes next

@@ -12,30 +12,30 @@ use Rattle.nfs_types.specs.declared.status.Status.{Status}
 use Rattle.nfs_types.specs.declared.status.Status.TheVariants as status
 use Rattle.nfs_spec.specs.Model.Find.{find_file}
 use Rattle.nfs_spec.specs.Model.Names.{ancestor, is_directory}
-use Rattle.nfs_spec.specs.Model.Node.{Node, Body, DirectoryEntry, Regular, Directory, Link}
+use Rattle.nfs_spec.specs.Model.Node.{Node, Body, DirentValue, Regular, Directory, Link}
 use Rattle.nfs_spec.specs.Model.SetAttr.{first_of_tests, given}
 use Rattle.nfs_spec.specs.Model.Tree.{Tree}
-use Rattle.nfs_spec.specs.Procedures.Changes.{changed_at, departed, entered, if_entry, without_name}
+use Rattle.nfs_spec.specs.Procedures.Changes.{changed_at, departed, entered, if_dirent, without_name}
 use Rattle.nfs_spec.specs.Procedures.FirstTests.{after_first, found_then, is_long, is_no_directory, is_no_name}
 use Rattle.nfs_spec.specs.Procedures.FirstTests.{may_change}
 use Rattle.nfs_spec.specs.Procedures.FirstTests.{unless}
-use Rattle.nfs_spec.specs.Procedures.Fresh.{new_entry}
+use Rattle.nfs_spec.specs.Procedures.Fresh.{new_dirent}
 use Rattle.nfs_spec.specs.Procedures.MkDir.{is_full}
-use Rattle.nfs_spec.specs.Procedures.Places.{entry_at, is_found_directory, is_found_other, is_own_name}
+use Rattle.nfs_spec.specs.Procedures.Places.{dirent_at, is_found_directory, is_found_other, is_own_name}
 use Rattle.nfs_spec.specs.Procedures.Places.{least_free_slot}
 use Rattle.nfs_spec.specs.Procedures.Places.{named_file}
 use Rattle.nfs_spec.specs.Procedures.RmDir.{is_found_filled}
-use Rattle.nfs_spec.specs.Procedures.Told.{Effect, answer_of, change_told, tree_after}
+use Rattle.nfs_spec.specs.Procedures.StepForms.{Effect, answer_of, change_between, tree_after}
 
 -- a name in a directory that was found
-pub record Place : Type 0 where
+pub record Dentry : Type 0 where
   pub number : ℕ
   pub directory : Node
   pub name : List ℕ
 
 -- the file that a place names
-abbrev pub file_in : Tree → Place → Option (ℕ × Node)
-file_in tree place = named_file tree place.directory place.name
+abbrev pub file_in : Tree → Dentry → Option (ℕ × Node)
+file_in tree dentry = named_file tree dentry.directory dentry.name
 
 -- The tests of both places come before those of what they name, kind by kind: first of both directories, and then
 -- of both names,
@@ -58,7 +58,7 @@ right_tests caller source name target new_name found =
     ∷ (is_none found, status.NoEnt)
     ∷ []
 
-abbrev pub places_refusal : Tree → Credential → Place → Place → Option Status
+abbrev pub places_refusal : Tree → Credential → Dentry → Dentry → Option Status
 places_refusal tree caller source target = first_of_tests (
     path_tests source.directory source.name target.directory target.name
     ++ right_tests caller source.directory source.name target.directory target.name (file_in tree source))
@@ -91,21 +91,21 @@ move_tests tree file source target replaced =
     ∷ (has_no_link file.1 source target replaced, status.MLink)
     ∷ []
 
-abbrev pub move_refusal : Tree → ℕ → Node → Place → Place → Option (ℕ × Node) → Option Status
+abbrev pub move_refusal : Tree → ℕ → Node → Dentry → Dentry → Option (ℕ × Node) → Option Status
 move_refusal tree number node source target replaced =
     first_of_tests (move_tests tree (number, node) source.number (target.number, target.directory) replaced)
 
 -- A replaced entry keeps its slot, and so does a name that changes within its directory. Else the new name
 -- takes the least free slot.
-abbrev pub slot_for : Bool → Option DirectoryEntry → Option DirectoryEntry → Body → Option ℕ
+abbrev pub slot_for : Bool → Option DirentValue → Option DirentValue → Body → Option ℕ
 slot_for within source (Some replaced) target = Some replaced.slot
-slot_for true source None target = option_map (λ entry. entry.slot) source
+slot_for true source None target = option_map (λ dirent. dirent.slot) source
 slot_for false source None target = least_free_slot target
 
-abbrev pub new_slot : Place → Place → Option ℕ
+abbrev pub new_slot : Dentry → Dentry → Option ℕ
 new_slot source target =
-    slot_for (nat_eq source.number target.number) (entry_at source.directory.body source.name)
-    (entry_at target.directory.body target.name) target.directory.body
+    slot_for (nat_eq source.number target.number) (dirent_at source.directory.body source.name)
+    (dirent_at target.directory.body target.name) target.directory.body
 
 abbrev pub with_parent : ℕ → Body → Body
 with_parent parent (Regular bytes mapped) = Regular bytes mapped
@@ -117,30 +117,30 @@ abbrev pub moved : Moment → ℕ → Node → Node
 moved moment parent node = record node { ctime = moment; body = with_parent parent node.body }
 
 -- The file leaves the one place, what stood in the other loses its name, and the file enters there.
-abbrev pub with_moved : Tree → Moment → ℕ → Node → Place → Place → Option (ℕ × Node) → DirectoryEntry
+abbrev pub with_moved : Tree → Moment → ℕ → Node → Dentry → Dentry → Option (ℕ × Node) → DirentValue
     → Effect (Unit {0})
-with_moved tree moment number node source target replaced entry =
+with_moved tree moment number node source target replaced dirent =
     let left = changed_at tree source.number (departed moment source.name node.body) in
     let cleared = without_name left moment target.number target.name replaced in
-    let named = changed_at cleared target.number (entered moment target.name entry node.body) in
+    let named = changed_at cleared target.number (entered moment target.name dirent node.body) in
     record { answer = tt; next = changed_at named number (moved moment target.number) }
 
-abbrev pub move : Tree → Ctx → ℕ → Node → Place → Place → Option (ℕ × Node)
+abbrev pub move : Tree → Ctx → ℕ → Node → Dentry → Dentry → Option (ℕ × Node)
     → Result (Effect (Unit {0})) Status
 move tree ctx number node source target replaced =
     unless (move_refusal tree number node source target replaced)
-    (if_entry tree (new_entry (Some number) (new_slot source target))
+    (if_dirent tree (new_dirent (Some number) (new_slot source target))
     (with_moved tree ctx.moment number node source target replaced))
 
 -- where both places name one file nothing is done
-abbrev pub rename_file : Tree → Ctx → Place → Place → Option (ℕ × Node) → Option (ℕ × Node)
+abbrev pub rename_file : Tree → Ctx → Dentry → Dentry → Option (ℕ × Node) → Option (ℕ × Node)
     → Result (Effect (Unit {0})) Status
 rename_file tree ctx source target None replaced = Err status.NoEnt
 rename_file tree ctx source target (Some file) replaced =
     cond (given replaced (λ other. nat_eq other.0 file.0)) (Ok (record { answer = tt; next = tree }))
     (move tree ctx file.0 file.1 source target replaced)
 
-abbrev pub rename : Tree → Ctx → Place → Place → Result (Effect (Unit {0})) Status
+abbrev pub rename : Tree → Ctx → Dentry → Dentry → Result (Effect (Unit {0})) Status
 rename tree ctx source target =
     unless (places_refusal tree ctx.credential source target)
     (rename_file tree ctx source target (file_in tree source) (file_in tree target))
@@ -154,8 +154,8 @@ renaming tree ctx from name to new_name =
 
 -- Both directories are told of.
 pub record RenameStep (tree : Tree) (ctx : Ctx) (from name to new_name : List ℕ)
-    (outcome : Result (Unit {0}) Status) (told new_told : WeakCacheData) (next : Tree) : Type 0 where
+    (outcome : Result (Unit {0}) Status) (file_attributes new_file_attributes : WeakCacheData) (next : Tree) : Type 0 where
   pub answered : outcome ≡ answer_of (renaming tree ctx from name to new_name)
   pub leads : next ≡ tree_after tree (renaming tree ctx from name to new_name)
-  pub parts : told ≡ change_told next (find_file tree from)
-  pub new_parts : new_told ≡ change_told next (after_first (find_file tree from) (find_file tree to))
+  pub parts : file_attributes ≡ change_between next (find_file tree from)
+  pub new_parts : new_file_attributes ≡ change_between next (after_first (find_file tree from) (find_file tree to))

@@ -10,9 +10,9 @@ use Rattle.nfs_spec.specs.Model.Node.{Node, Body}
 use Rattle.nfs_spec.specs.Model.SetAttr.{first_of_tests, given}
 use Rattle.nfs_spec.specs.Model.Tree.{Tree}
 use Rattle.nfs_spec.specs.Procedures.Changes.{without_name}
-use Rattle.nfs_spec.specs.Procedures.FirstTests.{may_change, place_tests, unless}
+use Rattle.nfs_spec.specs.Procedures.FirstTests.{may_change, dentry_tests, unless}
 use Rattle.nfs_spec.specs.Procedures.Places.{is_found_other, is_own_name, named_file}
-use Rattle.nfs_spec.specs.Procedures.Told.{Acts, Effect}
+use Rattle.nfs_spec.specs.Procedures.StepForms.{Acts, Effect}
 
 -- some name lies in it
 abbrev pub has_names : Body → Bool
@@ -33,7 +33,7 @@ rmdir_tests name found =
 
 abbrev pub rmdir_refusal : Credential → Node → List ℕ → Option (ℕ × Node) → Option Status
 rmdir_refusal caller directory name found = first_of_tests (
-    place_tests (may_change caller directory) directory name ++ rmdir_tests name found)
+    dentry_tests (may_change caller directory) directory name ++ rmdir_tests name found)
 
 -- the name goes, and the directory with it
 abbrev pub remove_directory : Tree → Ctx → List ℕ → ℕ → Node → Result (Effect (Unit {0})) Status
@@ -46,5 +46,5 @@ remove_directory tree ctx name at directory =
 
 abbrev pub RmDirStep : Tree → Ctx → List ℕ → List ℕ → Result (Unit {0}) Status → WeakCacheData → Tree
     → Type 0
-RmDirStep tree ctx directory name outcome told next =
-    Acts tree directory (remove_directory tree ctx name) outcome told next
+RmDirStep tree ctx directory name outcome file_attributes next =
+    Acts tree directory (remove_directory tree ctx name) outcome file_attributes next

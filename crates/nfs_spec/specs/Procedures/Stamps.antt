@@ -16,5 +16,5 @@ pub record IsMadeNow (tree : Tree) (number : ℕ) (stamp mine : Stamp) : Type 0 
   pub stamp_is : stamp ≡ mine
 
 -- A file's stamp: it was there with it, or it is made now.
-abbrev pub IsKeptOrMade : Tree → ℕ → Stamp → Stamp → Type 0
-IsKeptOrMade tree number stamp mine = WasThere tree number stamp ⊎ IsMadeNow tree number stamp mine
+abbrev pub IsPreservedOrMade : Tree → ℕ → Stamp → Stamp → Type 0
+IsPreservedOrMade tree number stamp mine = WasThere tree number stamp ⊎ IsMadeNow tree number stamp mine

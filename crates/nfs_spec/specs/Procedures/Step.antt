@@ -35,48 +35,48 @@ use Rattle.nfs_spec.specs.Procedures.Write.{WriteStep}
 abbrev pub numbered_step : Tree → Ctx → Option ℕ → Call → Reply → Tree → Type 0
 numbered_step tree ctx new (call.GetAttr object) (reply.GetAttr outcome) next =
     GetAttrStep tree object.bytes outcome next
-numbered_step tree ctx new (call.SetAttr object wanted guard) (reply.SetAttr outcome told) next =
-    SetAttrStep tree ctx object.bytes wanted guard outcome told next
-numbered_step tree ctx new (call.Lookup name) (reply.Lookup outcome told) next =
-    LookupStep tree ctx name.directory.bytes name.name outcome told next
-numbered_step tree ctx new (call.Access object bits) (reply.Access outcome told) next =
-    AccessStep tree ctx object.bytes bits outcome told next
-numbered_step tree ctx new (call.ReadLink link) (reply.ReadLink outcome told) next =
-    ReadLinkStep tree link.bytes outcome told next
-numbered_step tree ctx new (call.Read file offset count) (reply.Read outcome told) next =
-    ReadStep tree ctx file.bytes offset count outcome told next
-numbered_step tree ctx new (call.Write file offset count stability text) (reply.Write outcome told) next =
-    WriteStep tree ctx file.bytes offset count stability text outcome told next
-numbered_step tree ctx new (call.Create name how) (reply.Create outcome told) next =
-    CreateStep tree ctx name.directory.bytes name.name how new outcome told next
-numbered_step tree ctx new (call.MkDir name wanted) (reply.MkDir outcome told) next =
-    MkDirStep tree ctx name.directory.bytes name.name wanted new outcome told next
-numbered_step tree ctx new (call.SymLink name wanted target) (reply.SymLink outcome told) next =
-    SymLinkStep tree ctx name.directory.bytes name.name wanted target new outcome told next
-numbered_step tree ctx new (call.MkNod name special) (reply.MkNod outcome told) next =
-    MkNodStep tree name.directory.bytes outcome told next
-numbered_step tree ctx new (call.Remove name) (reply.Remove outcome told) next =
-    RemoveStep tree ctx name.directory.bytes name.name outcome told next
-numbered_step tree ctx new (call.RmDir name) (reply.RmDir outcome told) next =
-    RmDirStep tree ctx name.directory.bytes name.name outcome told next
-numbered_step tree ctx new (call.Rename source target) (reply.Rename outcome told tells) next =
-    RenameStep tree ctx source.directory.bytes source.name target.directory.bytes target.name outcome told
+numbered_step tree ctx new (call.SetAttr object wanted guard) (reply.SetAttr outcome file_attributes) next =
+    SetAttrStep tree ctx object.bytes wanted guard outcome file_attributes next
+numbered_step tree ctx new (call.Lookup name) (reply.Lookup outcome file_attributes) next =
+    LookupStep tree ctx name.directory.bytes name.name outcome file_attributes next
+numbered_step tree ctx new (call.Access object bits) (reply.Access outcome file_attributes) next =
+    AccessStep tree ctx object.bytes bits outcome file_attributes next
+numbered_step tree ctx new (call.ReadLink link) (reply.ReadLink outcome file_attributes) next =
+    ReadLinkStep tree link.bytes outcome file_attributes next
+numbered_step tree ctx new (call.Read file offset count) (reply.Read outcome file_attributes) next =
+    ReadStep tree ctx file.bytes offset count outcome file_attributes next
+numbered_step tree ctx new (call.Write file offset count stability text) (reply.Write outcome file_attributes) next =
+    WriteStep tree ctx file.bytes offset count stability text outcome file_attributes next
+numbered_step tree ctx new (call.Create name how) (reply.Create outcome file_attributes) next =
+    CreateStep tree ctx name.directory.bytes name.name how new outcome file_attributes next
+numbered_step tree ctx new (call.MkDir name wanted) (reply.MkDir outcome file_attributes) next =
+    MkDirStep tree ctx name.directory.bytes name.name wanted new outcome file_attributes next
+numbered_step tree ctx new (call.SymLink name wanted target) (reply.SymLink outcome file_attributes) next =
+    SymLinkStep tree ctx name.directory.bytes name.name wanted target new outcome file_attributes next
+numbered_step tree ctx new (call.MkNod name special) (reply.MkNod outcome file_attributes) next =
+    MkNodStep tree name.directory.bytes outcome file_attributes next
+numbered_step tree ctx new (call.Remove name) (reply.Remove outcome file_attributes) next =
+    RemoveStep tree ctx name.directory.bytes name.name outcome file_attributes next
+numbered_step tree ctx new (call.RmDir name) (reply.RmDir outcome file_attributes) next =
+    RmDirStep tree ctx name.directory.bytes name.name outcome file_attributes next
+numbered_step tree ctx new (call.Rename source target) (reply.Rename outcome file_attributes tells) next =
+    RenameStep tree ctx source.directory.bytes source.name target.directory.bytes target.name outcome file_attributes
     tells next
-numbered_step tree ctx new (call.Link file name) (reply.Link outcome told tells) next =
-    LinkStep tree ctx file.bytes name.directory.bytes name.name outcome told tells next
-numbered_step tree ctx new (call.ReadDir directory cookie verifier count) (reply.ReadDir outcome told) next =
-    ReadDirStep tree ctx directory.bytes cookie verifier count outcome told next
+numbered_step tree ctx new (call.Link file name) (reply.Link outcome file_attributes tells) next =
+    LinkStep tree ctx file.bytes name.directory.bytes name.name outcome file_attributes tells next
+numbered_step tree ctx new (call.ReadDir directory cookie verifier count) (reply.ReadDir outcome file_attributes) next =
+    ReadDirStep tree ctx directory.bytes cookie verifier count outcome file_attributes next
 numbered_step tree ctx new (call.ReadDirPlus directory cookie verifier names_count count)
-    (reply.ReadDirPlus outcome told) next =
-    ReadDirPlusStep tree ctx directory.bytes cookie verifier names_count count outcome told next
-numbered_step tree ctx new (call.FsStat object) (reply.FsStat outcome told) next =
-    FsStatStep tree object.bytes outcome told next
-numbered_step tree ctx new (call.FsInfo object) (reply.FsInfo outcome told) next =
-    FsInfoStep tree object.bytes outcome told next
-numbered_step tree ctx new (call.PathConf object) (reply.PathConf outcome told) next =
-    PathConfStep tree object.bytes outcome told next
-numbered_step tree ctx new (call.Commit file offset count) (reply.Commit outcome told) next =
-    CommitStep tree ctx file.bytes outcome told next
+    (reply.ReadDirPlus outcome file_attributes) next =
+    ReadDirPlusStep tree ctx directory.bytes cookie verifier names_count count outcome file_attributes next
+numbered_step tree ctx new (call.FsStat object) (reply.FsStat outcome file_attributes) next =
+    FsStatStep tree object.bytes outcome file_attributes next
+numbered_step tree ctx new (call.FsInfo object) (reply.FsInfo outcome file_attributes) next =
+    FsInfoStep tree object.bytes outcome file_attributes next
+numbered_step tree ctx new (call.PathConf object) (reply.PathConf outcome file_attributes) next =
+    PathConfStep tree object.bytes outcome file_attributes next
+numbered_step tree ctx new (call.Commit file offset count) (reply.Commit outcome file_attributes) next =
+    CommitStep tree ctx file.bytes outcome file_attributes next
 numbered_step tree ctx new _ _ next = ⊥
 
 -- From a tree, a call in this context may get this reply and lead to the next tree. A new file may get any

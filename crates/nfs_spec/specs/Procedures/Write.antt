@@ -19,9 +19,9 @@ use Rattle.nfs_spec.specs.Model.Node.{Node, Body, Regular, Directory, Link}
 use Rattle.nfs_spec.specs.Model.Permissions.{may_write_file}
 use Rattle.nfs_spec.specs.Model.SetAttr.{first_of_tests, is_regular}
 use Rattle.nfs_spec.specs.Model.Tree.{Tree, with_node}
-use Rattle.nfs_spec.specs.Procedures.Changes.{if_room}
+use Rattle.nfs_spec.specs.Procedures.Changes.{if_space}
 use Rattle.nfs_spec.specs.Procedures.FirstTests.{unless}
-use Rattle.nfs_spec.specs.Procedures.Told.{Acts, Effect}
+use Rattle.nfs_spec.specs.Procedures.StepForms.{Acts, Effect}
 
 -- what was written lies over the bytes from the offset on; where the file ended before it, zeros are between
 abbrev pub overwritten : ℕ → List ℕ → List ℕ → List ℕ
@@ -77,12 +77,12 @@ written_reply ctx count stability = record {
 abbrev pub write : Tree → Ctx → ℕ → ℕ → Stability → List ℕ → ℕ → Node → Result (Effect Written) Status
 write tree ctx offset count stability text number node =
     unless (write_refusal ctx.credential offset count text node)
-    (if_room tree (record {
+    (if_space tree (record {
       answer = written_reply ctx count stability;
       next = with_node tree number (written ctx.moment offset text node);
     }))
 
 abbrev pub WriteStep : Tree → Ctx → List ℕ → ℕ → ℕ → Stability → List ℕ → Result Written Status
     → WeakCacheData → Tree → Type 0
-WriteStep tree ctx file offset count stability text outcome told next =
-    Acts tree file (write tree ctx offset count stability text) outcome told next
+WriteStep tree ctx file offset count stability text outcome file_attributes next =
+    Acts tree file (write tree ctx offset count stability text) outcome file_attributes next

@@ -32,17 +32,17 @@ pub fn another_stamp_is_stale()
 /// and whoever asks, and changes nothing.
 pub fn the_guard_comes_first()
     ensures { (tree next : Tree) (ctx : Ctx) (handle : List ℕ) (wanted : NewAttributes) (time : Moment)
-        (number : ℕ) (node : Node) (outcome : Result (Unit {0}) Status) (told : WeakCacheData)
+        (number : ℕ) (node : Node) (outcome : Result (Unit {0}) Status) (file_attributes : WeakCacheData)
         → find_file tree handle ≡ Ok (number, node) → time ≢ node.ctime
-        → SetAttrStep tree ctx handle wanted (Some time) outcome told next
-        → (outcome ≡ Err status.NotSync) × (told ≡ change_of number node node) × (next ≡ tree) }
+        → SetAttrStep tree ctx handle wanted (Some time) outcome file_attributes next
+        → (outcome ≡ Err status.NotSync) × (file_attributes ≡ change_of number node node) × (next ≡ tree) }
 {}
 
 /// A SETATTR of the mode alone by uid 0 or the owner sets the bits of a mode and the time of the last change,
 /// and nothing else.
-pub fn a_mode_alone_is_set()
+pub fn only_a_mode_is_set()
     ensures { (tree next : Tree) (ctx : Ctx) (handle : List ℕ) (mode number : ℕ) (node : Node)
-        (outcome : Result (Unit {0}) Status) (told : WeakCacheData)
+        (outcome : Result (Unit {0}) Status) (file_attributes : WeakCacheData)
         → find_file tree handle ≡ Ok (number, node) → acts_as_owner ctx.credential node ≡ true
         → SetAttrStep tree ctx handle (record {
           mode = Some mode;
@@ -51,15 +51,15 @@ pub fn a_mode_alone_is_set()
           size = None;
           atime = Unchanged;
           mtime = Unchanged;
-        }) None outcome told next
+        }) None outcome file_attributes next
         → (outcome ≡ Ok tt)
-        × (told
+        × (file_attributes
         ≡ change_of number node (record node { mode = bit_and mode MODE_BITS; ctime = ctx.moment }))
         × (next ≡ with_node tree number (record node { mode = bit_and mode MODE_BITS; ctime = ctx.moment })) }
 {}
 
 /// For an owner who isn't uid 0 the owner's bits count, and no others: here the right to write.
-pub fn the_owners_bits_count_alone()
+pub fn only_the_owners_bits_count()
     ensures { (caller : Credential) (node : Node) → caller.uid ≢ 0 → caller.uid ≡ node.uid
         → has_right WRITE_RIGHT caller node ≡ not (nat_eq (bit_and node.mode 128) 0) }
 {}

@@ -55,25 +55,25 @@ pub fn one_file_needs_what_it_adds()
 pub fn a_commit_bears_the_verifier_of_what_was_written()
     ensures { (tree next other last : Tree) (ctx later : Ctx) (file another : List ℕ) (offset count : ℕ)
         (stability : Stability) (text : List ℕ) (reply : Written) (verifier : Verifier)
-        (told tells : WeakCacheData) → ctx.boot ≡ later.boot
-        → WriteStep tree ctx file offset count stability text (Ok reply) told next
+        (file_attributes tells : WeakCacheData) → ctx.boot ≡ later.boot
+        → WriteStep tree ctx file offset count stability text (Ok reply) file_attributes next
         → CommitStep other later another (Ok verifier) tells last → verifier ≡ reply.verifier }
 {}
 
 /// A READ of as many bytes from where a WRITE wrote gives what was written.
 pub fn a_read_gives_what_was_written()
     ensures { (tree middle last : Tree) (ctx later : Ctx) (file : List ℕ) (offset count : ℕ)
-        (stability : Stability) (text : List ℕ) (reply : Written) (given : ReadBytes) (told : WeakCacheData)
-        (tells : Option Attributes) → WriteStep tree ctx file offset count stability text (Ok reply) told middle
+        (stability : Stability) (text : List ℕ) (reply : Written) (given : ReadBytes) (file_attributes : WeakCacheData)
+        (tells : Option Attributes) → WriteStep tree ctx file offset count stability text (Ok reply) file_attributes middle
         → ReadStep middle later file offset (length text) (Ok given) tells last → given.bytes ≡ text }
 {}
 
 /// A READ of any other bytes gives what was there before the WRITE, and zeros where the file had ended.
-pub fn a_read_beside_it_gives_what_was_there()
+pub fn a_read_elsewhere_gives_what_was_there()
     ensures { (tree middle last : Tree) (ctx later : Ctx) (file : List ℕ) (offset count at asked index : ℕ)
-        (stability : Stability) (text : List ℕ) (reply : Written) (given : ReadBytes) (told : WeakCacheData)
+        (stability : Stability) (text : List ℕ) (reply : Written) (given : ReadBytes) (file_attributes : WeakCacheData)
         (tells : Option Attributes) (found : ℕ × Node) → find_file tree file ≡ Ok found
-        → WriteStep tree ctx file offset count stability text (Ok reply) told middle
+        → WriteStep tree ctx file offset count stability text (Ok reply) file_attributes middle
         → ReadStep middle later file at asked (Ok given) tells last → index < length given.bytes
         → (at + index < offset) ⊎ (offset + length text ≤ at + index)
         → get_or given.bytes index 0 ≡ get_or (bytes_of found.1.body) (at + index) 0 }
@@ -82,23 +82,23 @@ pub fn a_read_beside_it_gives_what_was_there()
 /// A WRITE takes just the blocks that it was found to need, when its space was tested.
 pub fn a_write_takes_what_it_needs()
     ensures { (tree next : Tree) (ctx : Ctx) (file : List ℕ) (offset count : ℕ) (stability : Stability)
-        (text : List ℕ) (reply : Written) (told : WeakCacheData)
-        → WriteStep tree ctx file offset count stability text (Ok reply) told next
+        (text : List ℕ) (reply : Written) (file_attributes : WeakCacheData)
+        → WriteStep tree ctx file offset count stability text (Ok reply) file_attributes next
         → used next ≡ used tree + need tree next }
 {}
 
 /// A WRITE of no bytes changes nothing.
 pub fn a_write_of_no_bytes_leaves_the_tree()
     ensures { (tree next : Tree) (ctx : Ctx) (file : List ℕ) (offset count : ℕ) (stability : Stability)
-        (reply : Written) (told : WeakCacheData)
-        → WriteStep tree ctx file offset count stability [] (Ok reply) told next → next ≡ tree }
+        (reply : Written) (file_attributes : WeakCacheData)
+        → WriteStep tree ctx file offset count stability [] (Ok reply) file_attributes next → next ≡ tree }
 {}
 
 /// After a REMOVE of the last name of a file the file is gone, and its blocks are free.
 pub fn the_last_name_takes_the_file_with_it()
-    ensures { (tree next : Tree) (ctx : Ctx) (directory name : List ℕ) (told : WeakCacheData)
-        (place file : ℕ × Node) → Sound tree → find_file tree directory ≡ Ok place
-        → named_file tree place.1 name ≡ Some file → file.1.nlink ≡ 1
-        → RemoveStep tree ctx directory name (Ok tt) told next
+    ensures { (tree next : Tree) (ctx : Ctx) (directory name : List ℕ) (file_attributes : WeakCacheData)
+        (directory_found file : ℕ × Node) → Sound tree → find_file tree directory ≡ Ok directory_found
+        → named_file tree directory_found.1 name ≡ Some file → file.1.nlink ≡ 1
+        → RemoveStep tree ctx directory name (Ok tt) file_attributes next
         → (node_at next file.0 ≡ None) × (free next ≡ free tree + cost file.1.body) }
 {}

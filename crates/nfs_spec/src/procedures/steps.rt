@@ -9,7 +9,7 @@ ghost use Rattle.nfs_spec.specs.Model.Sound.{IsMadeBy};
 ghost use Rattle.nfs_spec.specs.Model.Tree.{Tree, node_at};
 ghost use Rattle.nfs_spec.specs.Procedures.Histories.{stamp_of};
 ghost use Rattle.nfs_spec.specs.Procedures.Kinds.{is_refusal, may_make_file, only_tells, tells_failure};
-ghost use Rattle.nfs_spec.specs.Procedures.Stamps.{IsKeptOrMade};
+ghost use Rattle.nfs_spec.specs.Procedures.Stamps.{IsPreservedOrMade};
 ghost use Rattle.nfs_spec.specs.Procedures.Step.{numbered_step, step};
 
 /// Where the number of a new file is known, a call has one reply and one next tree.
@@ -55,7 +55,7 @@ pub fn no_step_tells_a_failure()
 pub fn each_file_was_there_or_is_made_now()
     ensures { (tree next : Tree) (ctx : Ctx) (asked : Call) (reply : Reply) (number : ℕ) (node : Node)
         → step tree ctx asked reply next → node_at next number ≡ Some node
-        → IsKeptOrMade tree number node.stamp (stamp_of ctx) }
+        → IsPreservedOrMade tree number node.stamp (stamp_of ctx) }
 {}
 
 /// A step makes no file with a later boot in its stamp: where none has one above a bound and the store's boot

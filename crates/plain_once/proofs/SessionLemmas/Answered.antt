@@ -31,14 +31,14 @@ IsNext middle written left more behind after =
     (reply : List ℕ) × BeginsAnswered middle left reply behind after × (more ≡ written ++ reply)
 
 pub one_more : (before middle after : Files) (bytes first written left more behind : List ℕ)
-    (told : Option Connection) → told ≡ Nothing → AreAnswered before bytes first written left middle
-    → IfNone told (IsNext middle written left more behind after)
+    (answer_given : Option Connection) → answer_given ≡ Nothing → AreAnswered before bytes first written left middle
+    → IfNone answer_given (IsNext middle written left more behind after)
     → AreAnswered before bytes first more behind after × (length behind < length left)
-one_more before middle after bytes first written left more behind told is answered next =
+one_more before middle after bytes first written left more behind answer_given is answered next =
     let P : Option Connection → Type 0 = λ o. IfNone o (IsNext middle written left more behind after) in
     let here = subst P is next in
-    let told = sym here.2 in (
-      subst (λ (m : List ℕ). AreAnswered before bytes first m behind after) told (More answered here.1),
+    let answer_given = sym here.2 in (
+      subst (λ (m : List ℕ). AreAnswered before bytes first m behind after) answer_given (More answered here.1),
       shorter left here.1.message behind here.1.first,
     )
 

@@ -9,10 +9,10 @@ use Rattle.session_wire.specs.declared.message.Judged.{Judged}
 use Rattle.session_wire.specs.declared.message.Judged.TheVariants.{Call, Closed, Refused}
 
 -- it closes where it was taken for none
-pub closes : (told is : Judged) → Judges told is → is ≡ Closed → told ≡ Closed
-closes told Closed judges same = judges
-closes told (Refused xid why) judges same = cc
-closes told (Call xid caller call) judges same = cc
+pub closes : (judged_verdict is : Judged) → Judges judged_verdict is → is ≡ Closed → judged_verdict ≡ Closed
+closes judged_verdict Closed judges same = judges
+closes judged_verdict (Refused xid why) judges same = cc
+closes judged_verdict (Call xid caller call) judges same = cc
 
 pub closed : (is : Judged) → Judges Closed is → is ≡ Closed
 closed Closed judges = refl

@@ -33,9 +33,9 @@ begins_more stream now new part parts last begins is inner fits = record {
 }
 
 -- a front of a list, by what stands behind it
-pub front_of : (whole front behind : List ℕ) (taken : ℕ) → whole ≡ front ++ behind
-    → taken ≡ length whole - length behind → take taken whole ≡ front
-front_of whole front behind taken is counted = grind (arith, common_steps)
+pub leading_of : (whole leading behind : List ℕ) (taken : ℕ) → whole ≡ leading ++ behind
+    → taken ≡ length whole - length behind → take taken whole ≡ leading
+leading_of whole leading behind taken is counted = grind (arith, common_steps)
 
 -- the last fragment makes a record
 pub whole_record : (stream now new part content : List ℕ) (parts : List (List ℕ)) (last : Bool) (taken : ℕ)
@@ -43,7 +43,7 @@ pub whole_record : (stream now new part content : List ℕ) (parts : List (List 
     → content ≡ joined parts ++ part → length content ≤ RECORD_BYTES → taken ≡ length stream - length new
     → (taken ≤ length stream) × IsRecord (take taken stream) content
 whole_record stream now new part content parts last taken begins is ends held fits counted =
-    let front : stream ≡ (fragments parts ++ fragment true part) ++ new =
+    let leading : stream ≡ (fragments parts ++ fragment true part) ++ new =
     begins.cut
     ∙ ap (λ (l : List ℕ). fragments parts ++ l) (is ∙ ap (λ (b : Bool). fragment b part ++ new) ends)
     ∙ sym (append_assoc (fragments parts) (fragment true part) new) in (
@@ -52,7 +52,7 @@ whole_record stream now new part content parts last taken begins is ends held fi
         parts = parts;
         last = part;
         begins = record {
-          cut = front_of stream (fragments parts ++ fragment true part) new taken front counted;
+          cut = leading_of stream (fragments parts ++ fragment true part) new taken leading counted;
           bounded = begins.bounded;
         };
         is = held;

@@ -3,7 +3,7 @@ use Rattle.std.proofs.Common.{ℕ, ◌≡◌, ◌<◌, ◌≤◌, ◌^◌, ◌�
 use Rattle.std.proofs.Common.{arith, inl, inr, length, refl}
 use Rattle.std.proofs.lemmas.Bool.{cases_lt}
 use Rattle.nfs_types.specs.declared.program.ProgramReply.{ProgramReply}
-use Rattle.plain_once.specs.Session.Answering.{IsTold}
+use Rattle.plain_once.specs.Session.Answering.{IsReplyRecord}
 use Rattle.session_wire.specs.Replies.{IsTooLong, body_too_long, reply_bytes}
 use Rattle.session_wire.specs.declared.message.ReplyBody.TheVariants as body
 
@@ -16,19 +16,19 @@ bool_cases true = inl refl
 bool_cases false = inr refl
 
 -- a result is told, whatever its length
-pub some_told : (xid : ℕ) (told : ProgramReply) → (bytes : List ℕ) × IsTold xid told bytes
-some_told xid told =
-    by_length (bool_cases (body_too_long (body.Done told)))
-    (cases_lt (length (reply_bytes xid (body.Done told))) (2 ^ 31))
+pub some_reply_record : (xid : ℕ) (response : ProgramReply) → (bytes : List ℕ) × IsReplyRecord xid response bytes
+some_reply_record xid response =
+    by_length (bool_cases (body_too_long (body.Done response)))
+    (cases_lt (length (reply_bytes xid (body.Done response))) (2 ^ 31))
   where
-    by_length : (body_too_long (body.Done told) ≡ true) ⊎ (body_too_long (body.Done told) ≡ false)
-        → (length (reply_bytes xid (body.Done told)) < 2 ^ 31)
-        ⊎ (2 ^ 31 ≤ length (reply_bytes xid (body.Done told)))
-        → (bytes : List ℕ) × IsTold xid told bytes
+    by_length : (body_too_long (body.Done response) ≡ true) ⊎ (body_too_long (body.Done response) ≡ false)
+        → (length (reply_bytes xid (body.Done response)) < 2 ^ 31)
+        ⊎ (2 ^ 31 ≤ length (reply_bytes xid (body.Done response)))
+        → (bytes : List ℕ) × IsReplyRecord xid response bytes
     by_length (inl long) either = (_, inr (inl long, refl))
     by_length (inr counted) (inr long) = (_, inr (inr long, refl))
     by_length (inr counted) (inl short) = (_, inl (never, refl))
       where
-        never : IsTooLong xid (body.Done told) → ⊥
+        never : IsTooLong xid (body.Done response) → ⊥
         never (inl long) = cc
         never (inr long) = omega arith

@@ -35,10 +35,10 @@ begins_closing bytes message content behind first same closes = record {
 }
 
 -- what it was answered
-pub reply_of : (before after : Files) (message : List ℕ) (told : Option (Vec ℕ Global))
-    (reply : Vec ℕ Global) → told ≡ Some reply
-    → IfSome told (λ it. IsMessageAnswered before message it.items after)
+pub reply_of : (before after : Files) (message : List ℕ) (answer_given : Option (Vec ℕ Global))
+    (reply : Vec ℕ Global) → answer_given ≡ Some reply
+    → IfSome answer_given (λ it. IsMessageAnswered before message it.items after)
     → IsMessageAnswered before message reply.items after
-reply_of before after message told reply is answered =
+reply_of before after message answer_given reply is answered =
     subst (λ (o : Option (Vec ℕ Global)). IfSome o (λ it. IsMessageAnswered before message it.items after)) is
     answered

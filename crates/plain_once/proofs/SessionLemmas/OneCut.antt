@@ -93,13 +93,13 @@ one_way held (p ∷ ps) (q ∷ qs) x y same a b hx hy =
     (cc, r.1)
 
 -- the parts before the last one, and what stands behind them
-record Stop (bytes : List ℕ) (parts : List (List ℕ)) (next : List ℕ) : Type 0 where
+record CutEnd (bytes : List ℕ) (parts : List (List ℕ)) (next : List ℕ) : Type 0 where
   begins : Begins bytes parts next
   halts : Halts (length (joined parts)) next
 
-one_stop : (bytes : List ℕ) (ps qs : List (List ℕ)) (x y : List ℕ) → Stop bytes ps x → Stop bytes qs y
+one_cut_end : (bytes : List ℕ) (ps qs : List (List ℕ)) (x y : List ℕ) → CutEnd bytes ps x → CutEnd bytes qs y
     → (ps ≡ qs) × (x ≡ y)
-one_stop bytes ps qs x y a b =
+one_cut_end bytes ps qs x y a b =
     one_way 0 ps qs x y (sym a.begins.cut ∙ b.begins.cut) (omega (arith, a.begins.bounded))
     (omega (arith, b.begins.bounded))
     (λ part rest is fits. a.halts part rest is (omega (arith, fits)))
@@ -113,14 +113,14 @@ marked_alike next behind part rest l k count is small e =
     marks_alike l k count (length part) behind (part ++ rest) is.marked small
     (sym is.cut ∙ e ∙ append_assoc (mark k (length part)) part rest)
 
-in_mark : (bytes : List ℕ) (e : EndsInMark bytes) → Stop bytes e.parts e.next
+in_mark : (bytes : List ℕ) (e : EndsInMark bytes) → CutEnd bytes e.parts e.next
 in_mark bytes e = record {
   begins = e.begins;
   halts = λ part rest is fits. let long = ap length is in
       omega (arith, e.part, long, mark-length false (length part), length-append {A = ℕ});
 }
 
-in_fragment : (bytes : List ℕ) (e : EndsInFragment bytes) → Stop bytes e.parts e.next
+in_fragment : (bytes : List ℕ) (e : EndsInFragment bytes) → CutEnd bytes e.parts e.next
 in_fragment bytes e = record {
   begins = e.begins;
   halts = λ part rest is fits.
@@ -130,7 +130,7 @@ in_fragment bytes e = record {
       omega (arith, e.part, m.1, long, length-append part rest);
 }
 
-too_long : (bytes : List ℕ) (e : IsTooLong bytes) → Stop bytes e.parts e.next
+too_long : (bytes : List ℕ) (e : IsTooLong bytes) → CutEnd bytes e.parts e.next
 too_long bytes e = record {
   begins = e.begins;
   halts = λ part rest is fits.
@@ -149,7 +149,7 @@ small bytes message behind f =
     omega (arith, f.is.bounded, long, length-append (joined f.is.parts) f.is.last)
 
 whole : (bytes message behind : List ℕ) (f : IsFirst bytes message behind)
-    → Stop bytes f.is.parts (fragment true f.is.last ++ behind)
+    → CutEnd bytes f.is.parts (fragment true f.is.last ++ behind)
 whole bytes message behind f = record {
   begins = record {
     cut = f.cut ∙ ap (λ (l : List ℕ). l ++ behind) f.is.begins.cut
@@ -167,7 +167,7 @@ whole bytes message behind f = record {
 pub one_record : (bytes message other behind rest : List ℕ) → IsFirst bytes message behind
     → IsFirst bytes other rest → (message ≡ other) × (behind ≡ rest)
 one_record bytes message other behind rest f g =
-    let s = one_stop bytes _ _ _ _ (whole bytes message behind f) (whole bytes other rest g) in
+    let s = one_cut_end bytes _ _ _ _ (whole bytes message behind f) (whole bytes other rest g) in
     let t = fragments_alike true true f.is.last g.is.last behind rest
     (omega (arith, small bytes message behind f)) (omega (arith, small bytes other rest g)) s.1 in
     let parts : f.is.parts ≡ g.is.parts = s.0 in
@@ -178,11 +178,11 @@ one_record bytes message other behind rest f g =
 
 pub whole_or_more : (bytes message behind : List ℕ) → IsFirst bytes message behind → NeedsMore bytes → ⊥
 whole_or_more bytes message behind f (inl e) =
-    let s = one_stop bytes _ _ _ _ (whole bytes message behind f) (in_mark bytes e) in
+    let s = one_cut_end bytes _ _ _ _ (whole bytes message behind f) (in_mark bytes e) in
     let long = ap length s.1 in
     omega (arith, e.part, long, mark-length true (length f.is.last), length-append {A = ℕ})
 whole_or_more bytes message behind f (inr e) =
-    let s = one_stop bytes _ _ _ _ (whole bytes message behind f) (in_fragment bytes e) in
+    let s = one_cut_end bytes _ _ _ _ (whole bytes message behind f) (in_fragment bytes e) in
     let m = marked_alike e.next e.behind f.is.last behind e.last true e.count e.announced
     (omega (arith, small bytes message behind f)) (sym s.1) in
     let long = ap length m.2 in
@@ -190,7 +190,7 @@ whole_or_more bytes message behind f (inr e) =
 
 pub whole_or_long : (bytes message behind : List ℕ) → IsFirst bytes message behind → IsTooLong bytes → ⊥
 whole_or_long bytes message behind f e =
-    let s = one_stop bytes _ _ _ _ (whole bytes message behind f) (too_long bytes e) in
+    let s = one_cut_end bytes _ _ _ _ (whole bytes message behind f) (too_long bytes e) in
     let m = marked_alike e.next e.behind f.is.last behind e.last true e.count e.announced
     (omega (arith, small bytes message behind f)) (sym s.1) in
     let held = ap (λ (ps : List (List ℕ)). length (joined ps)) s.0 in
@@ -198,11 +198,11 @@ whole_or_long bytes message behind f e =
 
 pub more_or_long : (bytes : List ℕ) → NeedsMore bytes → IsTooLong bytes → ⊥
 more_or_long bytes (inl a) e =
-    let s = one_stop bytes _ _ _ _ (in_mark bytes a) (too_long bytes e) in
+    let s = one_cut_end bytes _ _ _ _ (in_mark bytes a) (too_long bytes e) in
     let long = ap length (s.1 ∙ e.announced.cut) in
     omega (arith, a.part, long, mark-length e.last e.count, length-append {A = ℕ})
 more_or_long bytes (inr a) e =
-    let s = one_stop bytes _ _ _ _ (in_fragment bytes a) (too_long bytes e) in
+    let s = one_cut_end bytes _ _ _ _ (in_fragment bytes a) (too_long bytes e) in
     let m = marks_alike a.last e.last a.count e.count a.behind e.behind a.announced.marked e.announced.marked
     (sym a.announced.cut ∙ s.1 ∙ e.announced.cut) in
     let held = ap (λ (ps : List (List ℕ)). length (joined ps)) s.0 in

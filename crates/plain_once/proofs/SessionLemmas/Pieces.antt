@@ -24,16 +24,16 @@ wider piece None = None
 wider piece (More answered next) = More (wider piece answered) (longer piece next)
 
 -- and further ones behind it
-joined : {before : Files} {bytes first written left : List ℕ} {middle : Files} {told last : List ℕ}
+joined : {before : Files} {bytes first written left : List ℕ} {middle : Files} {replies_added last : List ℕ}
     {after : Files} → AreAnswered before bytes first written left middle
-    → AreAnswered middle left written told last after
-    → AreAnswered before bytes first told last after
+    → AreAnswered middle left written replies_added last after
+    → AreAnswered before bytes first replies_added last after
 joined answered None = answered
 joined answered (More more next) = More (joined answered more) next
 
-pub at_once : (before middle after : Files) (bytes piece first written told left last : List ℕ)
+pub at_once : (before middle after : Files) (bytes piece first written replies_added left last : List ℕ)
     → AreAnswered before bytes first written left middle
-    → AreAnswered middle (left ++ piece) written told last after
-    → AreAnswered before (bytes ++ piece) first told last after
-at_once before middle after bytes piece first written told left last answered more =
+    → AreAnswered middle (left ++ piece) written replies_added last after
+    → AreAnswered before (bytes ++ piece) first replies_added last after
+at_once before middle after bytes piece first written replies_added left last answered more =
     joined (wider piece answered) more

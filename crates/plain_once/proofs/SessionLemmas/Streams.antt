@@ -4,21 +4,21 @@ use Rattle.std.proofs.Common.{subst, sym, refl, inl, inr}
 use Rattle.plain_once.specs.Session.Counts.{HasData}
 use Rattle.plain_once.specs.Session.Records.{IsTooLong, NeedsMore}
 use Rattle.plain_once.specs.Session.Serving.{AreAnswered, BeginsClosing, Ends, EndsWith, IsFed, IsNew, IsStream}
-use Rattle.plain_once.specs.declared.session.answers.Pace.{Pace}
+use Rattle.plain_once.specs.declared.session.answers.FakeClock.{FakeClock}
 use Rattle.plain_once.specs.Session.Serving.{Session, Stops, fresh, fresh_files, is_closed_by, session_of}
 use Rattle.plain_once.specs.declared.session.session.PlainSession.{PlainSession}
 use Rattle.plain_once.specs.declared.session.session.Connection.{Connection}
 use Rattle.plain_once.specs.declared.session.session.Connection.TheVariants.{Closed, Open}
 
 -- a session that is there is fresh
-abbrev pub IsFresh : ℕ → ℕ → ℕ → Pace → Session → Type 0
+abbrev pub IsFresh : ℕ → ℕ → ℕ → FakeClock → Session → Type 0
 IsFresh blocks inodes made time session = (data_blocks : ℕ) × HasData blocks inodes (Some data_blocks)
     × (session ≡ fresh data_blocks inodes made time)
 
-pub fresh_of : (blocks inodes made : ℕ) (time : Pace) (told : Option PlainSession) (session : PlainSession)
-    → told ≡ Some session → IsNew blocks inodes made time told
+pub fresh_of : (blocks inodes made : ℕ) (time : FakeClock) (session_made : Option PlainSession) (session : PlainSession)
+    → session_made ≡ Some session → IsNew blocks inodes made time session_made
     → IsFresh blocks inodes made time (session_of session)
-fresh_of blocks inodes made time told session is new =
+fresh_of blocks inodes made time session_made session is new =
     subst (λ (o : Option PlainSession). IsNew blocks inodes made time o) is new
 
 -- what is left, where it has closed or something is left
@@ -39,12 +39,12 @@ ends_closed old new input first replies went fed ends =
     inr (refl, left_at_end new.unread new.is_closed went fed.stops fed.closed ends)
 
 -- what is fed to a fresh session
-pub fresh_is_open : (blocks inodes made : ℕ) (time : Pace) (session : Session)
+pub fresh_is_open : (blocks inodes made : ℕ) (time : FakeClock) (session : Session)
     → IsFresh blocks inodes made time session → session.is_closed ≡ false
 fresh_is_open blocks inodes made time session is =
     subst (λ (s : Session). s.is_closed ≡ false) (sym is.2) refl
 
-pub stream : (blocks inodes made : ℕ) (time : Pace) (old new : Session) (input first replies : List ℕ)
+pub stream : (blocks inodes made : ℕ) (time : FakeClock) (old new : Session) (input first replies : List ℕ)
     (went : Connection) (status : ℕ) → IsFresh blocks inodes made time old → first ≡ []
     → IsFed old input first went replies new → EndsWith new.unread status
     → (data_blocks : ℕ) × HasData blocks inodes (Some data_blocks)

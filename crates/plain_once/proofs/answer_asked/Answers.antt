@@ -7,7 +7,7 @@ use Rattle.plain_once.proofs.answer_asked.Goals as goal
 pub returns-in-Ok-Some-clause-ended : goal.returns-in-Ok-Some-clause-ended
 returns-in-Ok-Some-clause-ended g c ended =
     let asked = c.args.asked in
-    let new = subst (IsNew asked.blocks asked.inodes asked.made asked.pace) c.in-Ok-Some.field-0-is
+    let new = subst (IsNew asked.blocks asked.inodes asked.made asked.fake_clock) c.in-Ok-Some.field-0-is
     c.in-Ok-Some.ensures in
     let input = c.answer_input in
     let last = session_of input.new.session in

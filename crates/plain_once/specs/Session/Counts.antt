@@ -20,7 +20,7 @@ pub record IsLawful (blocks inodes : ℕ) : Type 0 where
   pub least_inodes : LEAST_INODES ≤ inodes
   pub most_inodes : inodes ≤ MOST_INODES
   pub whole : inodes % INODES_PER_BLOCK ≡ 0
-  pub room : taken_blocks blocks inodes + LEAST_DATA_BLOCKS ≤ blocks
+  pub has_space : taken_blocks blocks inodes + LEAST_DATA_BLOCKS ≤ blocks
 
 -- the data blocks of an image with these counts, where there is one
 abbrev pub HasData : ℕ → ℕ → Option ℕ → Type 0

@@ -5,7 +5,7 @@ use Rattle.nfs_spec.specs.Model.Format.{format_tree}
 use Rattle.plain_once.specs.Session.Answering.{Closes, Files, IsMessageAnswered, at_second, files_of}
 use Rattle.plain_once.specs.Session.Counts.{HasData}
 use Rattle.plain_once.specs.Session.Records.{IsRecord, IsTooLong, NeedsMore}
-use Rattle.plain_once.specs.declared.session.answers.Pace.{Pace}
+use Rattle.plain_once.specs.declared.session.answers.FakeClock.{FakeClock}
 use Rattle.plain_once.specs.declared.session.session.PlainSession.{PlainSession}
 use Rattle.plain_once.specs.declared.session.session.Connection.{Connection}
 use Rattle.plain_once.specs.declared.session.session.Connection.TheVariants as connection
@@ -24,16 +24,16 @@ session_of session = record {
 }
 
 -- the files of a fresh image, whose root was made at a second, with calls by a pace
-abbrev pub fresh_files : ℕ → ℕ → ℕ → Pace → Files
-fresh_files data_blocks inodes made pace = record {
+abbrev pub fresh_files : ℕ → ℕ → ℕ → FakeClock → Files
+fresh_files data_blocks inodes made fake_clock = record {
   tree = format_tree (record { data_blocks = data_blocks; inodes = inodes }) (at_second made);
-  pace = pace;
+  fake_clock = fake_clock;
   transactions = 0;
 }
 
-abbrev pub fresh : ℕ → ℕ → ℕ → Pace → Session
-fresh data_blocks inodes made pace = record {
-  files = fresh_files data_blocks inodes made pace;
+abbrev pub fresh : ℕ → ℕ → ℕ → FakeClock → Session
+fresh data_blocks inodes made fake_clock = record {
+  files = fresh_files data_blocks inodes made fake_clock;
   unread = [];
   is_closed = false;
 }
@@ -94,10 +94,10 @@ pub record Fails (before : Files) (bytes first written : List ℕ) (after : File
   pub cut : IsCutOff middle left after
 
 -- a new session; there is none where no image has these counts
-abbrev pub IsNew : ℕ → ℕ → ℕ → Pace → Option PlainSession → Type 0
-IsNew blocks inodes made pace Nothing = HasData blocks inodes Nothing
-IsNew blocks inodes made pace (Some session) = (data_blocks : ℕ) × HasData blocks inodes (Some data_blocks)
-    × (session_of session ≡ fresh data_blocks inodes made pace)
+abbrev pub IsNew : ℕ → ℕ → ℕ → FakeClock → Option PlainSession → Type 0
+IsNew blocks inodes made fake_clock Nothing = HasData blocks inodes Nothing
+IsNew blocks inodes made fake_clock (Some session) = (data_blocks : ℕ) × HasData blocks inodes (Some data_blocks)
+    × (session_of session ≡ fresh data_blocks inodes made fake_clock)
 
 -- how a session stands at the end of the input: closed, where it has closed or the end is inside a record
 abbrev pub Ends : Session → Connection → Type 0

@@ -2,7 +2,7 @@
 ghost use Rattle.std.specs.Prelude.{◌≡◌, ◌<◌, ◌^◌, ℕ, List, Ok, None, false, IfOk, IfSome, OnErr, get_or};
 ghost use Rattle.nfs_types.specs.Fits.{CallFits, ProgramCallFits};
 ghost use Rattle.plain_once.specs.Session.Answering.{Closes, IsMessageAnswered, IsCallAnswered, IsNfsReply, IsReply};
-ghost use Rattle.plain_once.specs.Session.Answering.{IsStep, IsTold, IsUndone, files_of, next_files};
+ghost use Rattle.plain_once.specs.Session.Answering.{IsStep, IsReplyRecord, IsUndone, files_of, next_files};
 ghost use Rattle.plain_once.specs.Session.Answering.{at_second, refusal_record, risen};
 ghost use Rattle.plain_steps.specs.Computed.{is_null as is_null_call};
 ghost use Rattle.session_wire.specs.Replies.{body_of};
@@ -21,12 +21,12 @@ use xdr::XdrFault;
 /// When calls come: at which second the first one that takes a number, and by how many seconds each is later
 /// than the one before.
 #[derive(Clone, Copy, Debug, PartialEq, Eq)]
-pub struct Pace {
+pub struct FakeClock {
     pub second: u32,
     pub rise: u32,
 }
 
-impl Pace {
+impl FakeClock {
     /// The moment of the next call.
     fn moment(&self) -> Moment
         ensures { result ≡ at_second self.now.second }
@@ -38,10 +38,10 @@ impl Pace {
     }
 
     /// The pace behind the next call. It stays at the last second that can be told.
-    fn risen(&self) -> Pace
+    fn risen(&self) -> FakeClock
         ensures { result ≡ risen self.now }
     {
-        Pace {
+        FakeClock {
             second: self.second.saturating_add(self.rise),
             rise: self.rise,
         }
@@ -52,7 +52,7 @@ impl Pace {
 #[derive(Drop)]
 pub struct PlainFiles {
     pub tree: PlainTree,
-    pub pace: Pace,
+    pub fake_clock: FakeClock,
     pub transactions: u64,
 }
 
@@ -65,7 +65,7 @@ pub fn answer_record(
 ) -> Result<Option<Vec<u8>>, AllocError>
     ensures closes { Closes message.now → result ≡ Ok None }
     ensures closed { result ≡ Ok None → Closes message.now × (files_of files.new ≡ files_of files.old) }
-    ensures answered { IfOk result (λ told. IfSome told (λ reply. IsMessageAnswered (files_of files.old) message.now
+    ensures answered { IfOk result (λ response. IfSome response (λ reply. IsMessageAnswered (files_of files.old) message.now
         reply.items (files_of files.new))) }
     ensures lost { OnErr result ((bytes : List ℕ) × IsMessageAnswered (files_of files.old) message.now bytes
         (files_of files.new)) }
@@ -112,9 +112,9 @@ fn answer_call(
 // The record that tells a result. Where it is too long for one, that the system failed is told. The call is done
 // by now, so where memory fails nothing is told.
 fn tell(alloc: Global, xid: u32, reply: &ProgramReply) -> Result<Vec<u8>, AllocError>
-    ensures { IfOk result (λ whole. IsTold xid reply.now whole.items) }
+    ensures { IfOk result (λ whole. IsReplyRecord xid reply.now whole.items) }
 {
-    match reply_bytes(alloc, xid, told(reply)) {
+    match reply_bytes(alloc, xid, response(reply)) {
         Ok(record) => Ok(record),
         Err(XdrFault::Length) => refused(alloc, xid, Refusal::SystemError),
         Err(_) => Err(AllocError),
@@ -122,7 +122,7 @@ fn tell(alloc: Global, xid: u32, reply: &ProgramReply) -> Result<Vec<u8>, AllocE
 }
 
 // A result as what a call is answered.
-fn told(reply: &ProgramReply) -> RpcReply<'_>
+fn response(reply: &ProgramReply) -> RpcReply<'_>
     ensures { body_of result ≡ body.Done reply.now }
 {
     match reply {
@@ -208,11 +208,11 @@ fn step(
     files.transactions = files.transactions.saturating_add(1);
     let ctx = Ctx {
         credential,
-        moment: files.pace.moment(),
+        moment: files.fake_clock.moment(),
         boot: 1,
         transaction: files.transactions,
     };
-    files.pace = files.pace.risen();
+    files.fake_clock = files.fake_clock.risen();
     match answer(alloc, &mut files.tree, &ctx, call)? {
         Some(reply) => Ok(reply),
         None => unreachable!(),

@@ -36,7 +36,7 @@ impl<'a> StreamReader<'a> {
         ensures known { is_ok result ≡ nat_le count (length self.old) }
         ensures rest { IfOk result (λ _. length self.new + count ≡ length self.old) }
         ensures spelled { IfOk result (λ bytes. self.old ≡ bytes.now ++ self.new) }
-        ensures kept { OnErr result (self.new ≡ self.old) }
+        ensures is_preserved { OnErr result (self.new ≡ self.old) }
     {
         if self.rest.len() < count {
             return Err(TooShort);
@@ -51,7 +51,7 @@ impl<'a> StreamReader<'a> {
         ensures known { is_ok result ≡ nat_le 4 (length self.old) }
         ensures rest { IfOk result (λ _. length self.new + 4 ≡ length self.old) }
         ensures spelled { IfOk result (λ word. self.old ≡ spelled word ++ self.new) }
-        ensures kept { OnErr result (self.new ≡ self.old) }
+        ensures is_preserved { OnErr result (self.new ≡ self.old) }
     {
         Ok(number_of_four(self.take(4)?))
     }

@@ -8,7 +8,7 @@ ghost use Rattle.plain_once.specs.Session.Answering.{at_second as moment_at};
 ghost use Rattle.plain_once.specs.Session.Serving.{IsNew, IsStream, Stops, fresh_files};
 ghost use Rattle.plain_once.specs.Session.Serving.{session_of};
 
-use crate::session::answers::{Pace, PlainFiles, answer_record};
+use crate::session::answers::{FakeClock, PlainFiles, answer_record};
 use crate::session::image::data_blocks;
 use crate::session::records::{Cut, first_record};
 use bytes::Bytes;
@@ -40,9 +40,9 @@ impl PlainSession {
         blocks: u32,
         inodes: u32,
         made: u32,
-        pace: Pace,
+        fake_clock: FakeClock,
     ) -> Result<Option<PlainSession>, AllocError>
-        ensures { IfOk result (λ session. IsNew blocks inodes made pace session) }
+        ensures { IfOk result (λ session. IsNew blocks inodes made fake_clock session) }
     {
         let Some(data_blocks) = data_blocks(blocks, inodes) else {
             return Ok(None);
@@ -51,7 +51,7 @@ impl PlainSession {
         Ok(Some(PlainSession {
             files: PlainFiles {
                 tree,
-                pace,
+                fake_clock,
                 transactions: 0,
             },
             unread: Vec::new(alloc),
@@ -136,10 +136,10 @@ fn answer_next(
     unread: &mut Vec<u8>,
     replies: &mut Vec<u8>,
 ) -> Result<Option<Connection>, AllocError>
-    ensures stops { IfOk result (λ told. IfSome told (λ progress. Stops unread.old.items progress
+    ensures stops { IfOk result (λ answer_given. IfSome answer_given (λ progress. Stops unread.old.items progress
         × (unread.new.items ≡ unread.old.items) × (replies.new.items ≡ replies.old.items)
         × (files_of files.new ≡ files_of files.old))) }
-    ensures answers { IfOk result (λ told. IfNone told ((reply : List ℕ)
+    ensures answers { IfOk result (λ answer_given. IfNone answer_given ((reply : List ℕ)
         × BeginsAnswered (files_of files.old) unread.old.items reply unread.new.items (files_of files.new)
         × (replies.new.items ≡ replies.old.items ++ reply))) }
     ensures err { OnErr result ((replies.new.items ≡ replies.old.items)
@@ -178,15 +178,15 @@ pub fn answer_stream(
     blocks: u32,
     inodes: u32,
     made: u32,
-    pace: Pace,
+    fake_clock: FakeClock,
     input: &[u8],
 ) -> Result<Option<(Vec<u8>, u8)>, AllocError>
     ensures none { result ≡ Ok None → HasData blocks inodes None }
-    ensures answered { IfOk result (λ told. IfSome told (λ ended. (data_blocks : ℕ)
+    ensures answered { IfOk result (λ answer_given. IfSome answer_given (λ ended. (data_blocks : ℕ)
         × HasData blocks inodes (Some data_blocks)
-        × IsStream (fresh_files data_blocks inodes made pace) input.now ended.0.items ended.1)) }
+        × IsStream (fresh_files data_blocks inodes made fake_clock) input.now ended.0.items ended.1)) }
 {
-    let Some(mut session) = PlainSession::new(alloc, blocks, inodes, made, pace)? else {
+    let Some(mut session) = PlainSession::new(alloc, blocks, inodes, made, fake_clock)? else {
         return Ok(None);
     };
     let mut replies = Vec::new(alloc);

@@ -1,23 +1,23 @@
 //! What is in a file, and names that come and go.
 ghost use Rattle.std.specs.Prelude.{◌≡◌, IfSome, IfNone, Some, None, ◌+◌, ◌<◌, OnOk};
-ghost use Rattle.nfs_spec.specs.Procedures.Places.{entry_at};
+ghost use Rattle.nfs_spec.specs.Procedures.Places.{dirent_at};
 ghost use Rattle.nfs_spec.specs.Procedures.RmDir.{has_names};
-ghost use Rattle.plain_tree.specs.Tree.Named.{place_of};
+ghost use Rattle.plain_tree.specs.Tree.Named.{slot_and_number};
 ghost use Rattle.plain_tree.specs.Tree.Plain.{body_of};
 ghost use Rattle.nfs_spec.specs.Model.Names.{parent_of};
 ghost use Rattle.nfs_spec.specs.Procedures.Read.{bytes_of, piece};
-ghost use Rattle.nfs_spec.specs.Procedures.Changes.{with_entry, without_entry};
+ghost use Rattle.nfs_spec.specs.Procedures.Changes.{with_dirent, without_dirent};
 
 use base::{SLOTS_PER_BLOCK, TRANSFER_BYTES};
 use nfs_types::Octets;
-use plain_tree::{PlainBody, PlainEntry};
+use plain_tree::{PlainBody, PlainDirent};
 use std::alloc::AllocError;
 
 /// What a name in a directory leads to.
-pub(crate) fn entry_at<'t>(body: &'t PlainBody, name: &[u8]) -> Option<&'t PlainEntry>
-    ensures some { IfSome result (λ entry. entry_at (body_of body.now) name.now ≡ Some
-        (place_of entry.now)) }
-    ensures none { IfNone result (entry_at (body_of body.now) name.now ≡ None) }
+pub(crate) fn dirent_at<'t>(body: &'t PlainBody, name: &[u8]) -> Option<&'t PlainDirent>
+    ensures some { IfSome result (λ dirent. dirent_at (body_of body.now) name.now ≡ Some
+        (slot_and_number dirent.now)) }
+    ensures none { IfNone result (dirent_at (body_of body.now) name.now ≡ None) }
 {
     let PlainBody::Directory { entries, .. } = body else {
         return None;
@@ -72,13 +72,13 @@ pub(crate) fn piece(bytes: &[u8], offset: u64, count: u32) -> &[u8]
 }
 
 /// A directory gets a name for a file, in place of any that it led to.
-pub(crate) fn add_entry(
+pub(crate) fn add_dirent(
     body: &mut PlainBody,
     name: Octets,
     number: u32,
     slot: u32,
 ) -> Result<(), AllocError>
-    ensures { OnOk result (body_of body.new ≡ with_entry name (record { number = number; slot = slot })
+    ensures { OnOk result (body_of body.new ≡ with_dirent name (record { number = number; slot = slot })
         (body_of body.old)) }
 {
     if let PlainBody::Directory { entries, span, .. } = body {
@@ -89,8 +89,8 @@ pub(crate) fn add_entry(
 }
 
 /// A directory loses a name.
-pub(crate) fn remove_entry(body: &mut PlainBody, name: &[u8])
-    ensures { body_of body.new ≡ without_entry name.now (body_of body.old) }
+pub(crate) fn remove_dirent(body: &mut PlainBody, name: &[u8])
+    ensures { body_of body.new ≡ without_dirent name.now (body_of body.old) }
 {
     if let PlainBody::Directory { entries, .. } = body {
         entries.remove(name);

@@ -5,15 +5,15 @@ ghost use Rattle.nfs_spec.specs.Procedures.Places.{is_taken_slot, least_free_slo
 ghost use Rattle.plain_tree.specs.Tree.Plain.{body_of};
 
 use base::{MOST_SPAN, SLOTS_PER_BLOCK};
-use plain_tree::{PlainBody, PlainEntry};
+use plain_tree::{PlainBody, PlainDirent};
 
 // The slots of the largest directory.
 const MOST_SLOTS: u32 = SLOTS_PER_BLOCK * MOST_SPAN as u32;
 
-fn has_slot(entries: &[PlainEntry], slot: u32) -> bool
-    ensures { result ≡ list_any (λ entry. nat_eq entry.slot slot) entries.now }
+fn has_slot(entries: &[PlainDirent], slot: u32) -> bool
+    ensures { result ≡ list_any (λ dirent. nat_eq dirent.slot slot) entries.now }
 {
-    entries.iter().any(|entry| entry.slot == slot)
+    entries.iter().any(|dirent| dirent.slot == slot)
 }
 
 /// Whether a name of the directory lies in the slot.

@@ -38,17 +38,17 @@ no_either : (a b : Bool) → (a || b) ≡ false → (a ≡ false) × (b ≡ fals
 no_either true b e = cc
 no_either false b e = (refl, e)
 
-near : (inner index : ℕ) → is_double index ≡ false → is_inner inner index ≡ false
-near inner index e =
+not_inner : (inner index : ℕ) → is_double index ≡ false → is_inner inner index ≡ false
+not_inner inner index e =
     let few : nat_le (FIRST_DOUBLE_INDEX + INDIRECT_INDEXES * inner) index ≡ false = grind (arith, nat_tests) in
     ap (λ t. t && nat_lt index (FIRST_DOUBLE_INDEX + INDIRECT_INDEXES * inner + INDIRECT_INDEXES)) few
 
-all_near : (inner : ℕ) (indexes : List ℕ) → list_any is_double indexes ≡ false
+all_not_inner : (inner : ℕ) (indexes : List ℕ) → list_any is_double indexes ≡ false
     → list_any (is_inner inner) indexes ≡ false
-all_near inner [] e = refl
-all_near inner (index ∷ indexes) e =
+all_not_inner inner [] e = refl
+all_not_inner inner (index ∷ indexes) e =
     let both = no_either (is_double index) (list_any is_double indexes) e in
-    λ i. near inner index both.0 i || all_near inner indexes both.1 i
+    λ i. not_inner inner index both.0 i || all_not_inner inner indexes both.1 i
 
 module _ (indexes : List ℕ) where
   abbrev all : set.FinSet nat_cmp
@@ -70,4 +70,4 @@ module _ (indexes : List ℕ) where
   unfolding inner_cost
   no_inner none count =
       none_counted (λ inner. list_any (is_inner inner) (set.items all))
-      (λ inner. any_items (is_inner inner) indexes ∙ all_near inner indexes none) (range_with_len 0 count)
+      (λ inner. any_items (is_inner inner) indexes ∙ all_not_inner inner indexes none) (range_with_len 0 count)

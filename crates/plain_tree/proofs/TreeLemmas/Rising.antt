@@ -6,14 +6,14 @@ use Rattle.std.specs.FinMap.Entries.{below_all}
 use Rattle.std.specs.Ordering.{is_lt, nat_cmp}
 use Rattle.std.specs.declared.cmp.Ordering.{Ordering}
 use Rattle.std.specs.declared.cmp.Ordering.TheVariants.{Less, Equal, Greater}
-use Rattle.plain_tree.specs.Tree.Named.{are_sorted, entry_of}
-use Rattle.plain_tree.specs.declared.tree.names.PlainEntry.{PlainEntry}
+use Rattle.plain_tree.specs.Tree.Named.{are_sorted, plain_dirent_of}
+use Rattle.plain_tree.specs.declared.tree.plain_names.PlainDirent.{PlainDirent}
 
 abbrev order : List ℕ → List ℕ → Ordering
 order = slice_cmp nat_cmp
 
 -- whether the name of one entry is below that of the next one
-abbrev pub is_under : PlainEntry → PlainEntry → Bool
+abbrev pub is_under : PlainDirent → PlainDirent → Bool
 is_under one next = is_lt (order one.name next.name)
 
 less : (r : Ordering) → is_lt r ≡ true → r ≡ Less
@@ -42,16 +42,16 @@ no_second true b e = e
 no_second false b e = refl
 
 -- what is above a name is above those below it
-below_too : (low high : List ℕ) (xs : List PlainEntry) → is_lt (order low high) ≡ true
-    → below_all order high (map entry_of xs) ≡ true → below_all order low (map entry_of xs) ≡ true
+below_too : (low high : List ℕ) (xs : List PlainDirent) → is_lt (order low high) ≡ true
+    → below_all order high (map plain_dirent_of xs) ≡ true → below_all order low (map plain_dirent_of xs) ≡ true
 below_too low high [] is above = refl
 below_too low high (x ∷ xs) is above =
     both _ _
     (ap is_lt (nat_list_cmp_total.trans low high x.name (less _ is) (less _ (first _ _ above))))
     (below_too low high xs is (second _ _ above))
 
-pub rising : (xs : List PlainEntry)
-    → ((k : ℕ) → suc k < length xs → (d : PlainEntry) → is_under (get_or xs k d) (get_or xs (suc k) d) ≡ true)
+pub rising : (xs : List PlainDirent)
+    → ((k : ℕ) → suc k < length xs → (d : PlainDirent) → is_under (get_or xs k d) (get_or xs (suc k) d) ≡ true)
     → are_sorted xs ≡ true
 rising [] each = refl
 rising (x ∷ []) each = refl
@@ -60,8 +60,8 @@ rising (x ∷ y ∷ ys) each =
     let low = each 0 (omega arith) x in
     both _ _ (both _ _ low (below_too x.name y.name ys low (first _ _ rest))) rest
 
-pub falling : (xs : List PlainEntry) (k : ℕ) → suc k < length xs
-    → ((d : PlainEntry) → is_under (get_or xs k d) (get_or xs (suc k) d) ≡ false) → are_sorted xs ≡ false
+pub falling : (xs : List PlainDirent) (k : ℕ) → suc k < length xs
+    → ((d : PlainDirent) → is_under (get_or xs k d) (get_or xs (suc k) d) ≡ false) → are_sorted xs ≡ false
 falling [] k below high = absurd (omega arith)
 falling (x ∷ []) k below high = absurd (omega arith)
 falling (x ∷ y ∷ ys) zero below high = no_first _ _ (no_first _ _ (high x))

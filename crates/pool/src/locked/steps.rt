@@ -8,7 +8,7 @@ ghost use Rattle.circ.specs.Log.Installer.{may_install};
 ghost use Rattle.circ.specs.Log.Logger.{may_log};
 
 use crate::locked::Locked;
-use crate::{Seat, Told};
+use crate::{Seat, StepResult};
 use disk::{Port, Side};
 use std::alloc::Global;
 use std::sync::ledger::Ledger;
@@ -23,7 +23,7 @@ pub fn worker_step<L: Ledger, G: Whole, I: Whole, S>(
 ) -> Turn
     ensures bound { seat.old.share.amount ≤ locked.old.core.log.places }
     ensures step { HasStepped seat.old.work locked.old.core result seat.new.work locked.new.core }
-    ensures share { seat.new.share.amount ≡ seat.old.share.amount + grown seat.new.work.told }
+    ensures share { seat.new.share.amount ≡ seat.old.share.amount + grown seat.new.work.step_result }
     ensures parts { seat.new.share.parts ≡ seat.old.share.parts }
     ensures source { seat.new.source ≡ seat.old.source }
     ensures lawful { IsLawful locked.old.core × IsLawful locked.new.core }
@@ -42,7 +42,7 @@ pub fn worker_step<L: Ledger, G: Whole, I: Whole, S>(
     core.lawful();
     commits.audit(share);
     let turn = work.step(alloc, core, share);
-    if work.told() == Told::Committed {
+    if work.step_result() == StepResult::Committed {
         commits.add(share, 1);
     }
     core.lawful();

@@ -58,8 +58,8 @@ tells_attributes (reply.FsInfo outcome object) = false
 tells_attributes (reply.PathConf outcome object) = false
 tells_attributes (reply.Commit outcome file) = false
 
-attributes : (tree next : Tree) (ctx : Ctx) (new : Option ℕ) (object : Handle) (told : Reply)
-    → numbered_step tree ctx new (call.GetAttr object) told next → tells_attributes told ≡ true
+attributes : (tree next : Tree) (ctx : Ctx) (new : Option ℕ) (object : Handle) (response : Reply)
+    → numbered_step tree ctx new (call.GetAttr object) response next → tells_attributes response ≡ true
 unfolding tells_attributes
 attributes tree next ctx new object reply.Null s = absurd s
 attributes tree next ctx new object (reply.GetAttr outcome) s = refl
@@ -84,8 +84,8 @@ attributes tree next ctx new object (reply.FsInfo outcome about) s = absurd s
 attributes tree next ctx new object (reply.PathConf outcome about) s = absurd s
 attributes tree next ctx new object (reply.Commit outcome file) s = absurd s
 
-no_attributes : (tree next : Tree) (ctx : Ctx) (new : Option ℕ) (asked : Handle) (offset count : ℕ) (told : Reply)
-    → numbered_step tree ctx new (call.Commit asked offset count) told next → tells_attributes told ≡ false
+no_attributes : (tree next : Tree) (ctx : Ctx) (new : Option ℕ) (asked : Handle) (offset count : ℕ) (response : Reply)
+    → numbered_step tree ctx new (call.Commit asked offset count) response next → tells_attributes response ≡ false
 unfolding tells_attributes
 no_attributes tree next ctx new asked offset count reply.Null s = refl
 no_attributes tree next ctx new asked offset count (reply.GetAttr outcome) s = absurd s
@@ -111,8 +111,8 @@ no_attributes tree next ctx new asked offset count (reply.PathConf outcome about
 no_attributes tree next ctx new asked offset count (reply.Commit outcome file) s = refl
 
 reply_in : ReplyBody → Reply
-reply_in (body.Done (program_replies.Nfs told)) = told
-reply_in (body.Done (program_replies.Mount told)) = reply.Null
+reply_in (body.Done (program_replies.Nfs response)) = response
+reply_in (body.Done (program_replies.Mount response)) = reply.Null
 reply_in (body.Refused why) = reply.Null
 
 same : {a b : Reply} → with_reply a ≡ with_reply b → a ≡ b
@@ -120,9 +120,9 @@ unfolding reply_in
 same is = ap reply_in is
 
 -- what GETATTR may get, no COMMIT may get
-pub no_two : (tree other : Tree) (ctx later : Ctx) (object asked : Handle) (offset count : ℕ) (told : ReplyBody)
-    → MayGet tree ctx (call.GetAttr object) told → MayGet other later (call.Commit asked offset count) told → ⊥
-no_two tree other ctx later object asked offset count told one two =
+pub no_two : (tree other : Tree) (ctx later : Ctx) (object asked : Handle) (offset count : ℕ) (response : ReplyBody)
+    → MayGet tree ctx (call.GetAttr object) response → MayGet other later (call.Commit asked offset count) response → ⊥
+no_two tree other ctx later object asked offset count response one two =
     let alike = same (sym one.1 ∙ two.1) in
     true≢false (sym (attributes tree one.2 ctx one.3.new object one.0 one.3.leads)
     ∙ (ap tells_attributes alike ∙ no_attributes other two.2 later two.3.new asked offset count two.0 two.3.leads))

@@ -61,4 +61,4 @@ refused (Refused number refusal) xid why is = search
 refused (Call number credential (Mount call)) xid why (inl is) = absurd (other is)
 refused (Call number credential (Mount call)) xid why (inr is) = ((same is).0, inr (same is).1)
 refused (Call number credential (Nfs call)) xid why (inl is) = absurd (other is)
-refused (Call number credential (Nfs call)) xid why (inr is) = same is
+refused (Call number credential (Nfs call)) xid why (inr is) = ((same is).0, inr (same is).1)

@@ -43,9 +43,9 @@ abbrev pub IsShownStable : Sent → Given Outcome → Option ℕ → Type 0
 IsShownStable sent given stable = is_answered_stable sent.job.call ≡ true → stable ≡ Some given.place.0
 
 -- One of the three in the place of a reply: a system error for want of memory, IO, or SERVERFAULT.
-abbrev pub IsInItsPlace : Call → ReplyBody → Type 0
-IsInItsPlace call told = (told ≡ body.Refused SystemError)
-    ⊎ ((told ≡ with_reply (refused status.Io call)) ⊎ (told ≡ with_reply (refused status.ServerFault call)))
+abbrev pub IsSubstitute : Call → ReplyBody → Type 0
+IsSubstitute call response = (response ≡ body.Refused SystemError)
+    ⊎ ((response ≡ with_reply (refused status.Io call)) ⊎ (response ≡ with_reply (refused status.ServerFault call)))
 
 -- it bears the key and the numbers of the job
 pub record Bears (answer : Answered) (job : Job) : Type 0 where
@@ -73,7 +73,7 @@ pub record IsCommitted (answer : Answered) (sent : Sent) (given : Given Outcome)
 abbrev pub RestsOn : Answered → Evidence → Type 0
 RestsOn answer (evidence.Immediate replied) = IsImmediate answer replied.value
 RestsOn answer (evidence.Committed sent given stable) = IsCommitted answer sent given stable
-RestsOn answer (evidence.InItsPlace sent) = Bears answer sent.job × IsInItsPlace sent.job.call answer.body
+RestsOn answer (evidence.Substitute sent) = Bears answer sent.job × IsSubstitute sent.job.call answer.body
 RestsOn answer (evidence.Nothing sent) = Bears answer sent.job × (begins_transaction sent.job.call ≡ false)
     × (answer.body ≡ with_reply Null)
 
@@ -82,10 +82,10 @@ IsEvident answer = RestsOn answer answer.evidence
 
 -- an answer to this job: with its key and numbers, and made of this evidence
 abbrev pub answer_to : Job → ReplyBody → Evidence → Answered
-answer_to job told made = record {
+answer_to job response made = record {
   key = job.key;
   number = job.number;
   xid = job.xid;
-  body = told;
+  body = response;
   evidence = made;
 }

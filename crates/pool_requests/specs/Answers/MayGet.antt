@@ -10,4 +10,4 @@ use Rattle.pool_requests.specs.Answers.Evident.{with_reply}
 
 -- it is the reply of a step of the sequential server to the call, from this tree
 abbrev pub MayGet : Tree → Ctx → Call → ReplyBody → Type 0
-MayGet tree ctx call told = (reply : Reply) × (told ≡ with_reply reply) × (next : Tree) × step tree ctx call reply next
+MayGet tree ctx call response = (reply : Reply) × (response ≡ with_reply reply) × (next : Tree) × step tree ctx call reply next

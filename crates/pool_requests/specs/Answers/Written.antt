@@ -34,18 +34,18 @@ pub record Queued : Type 0 where
   pub number : ℕ
   pub bytes : List ℕ
   pub answers : List Answered
-  pub room : ℕ
+  pub buffer_capacity : ℕ
 
 -- nothing waits
 abbrev pub nothing_for : ℕ → ℕ → ℕ → Queued
-nothing_for key number room = record { key = key; number = number; bytes = []; answers = []; room = room }
+nothing_for key number buffer_capacity = record { key = key; number = number; bytes = []; answers = []; buffer_capacity = buffer_capacity }
 
 -- more answers behind the others
 abbrev pub with_more : Written → ℕ → Queued → Queued
-with_more more room queue = record queue {
+with_more more buffer_capacity queue = record queue {
   bytes = queue.bytes ++ more.bytes;
   answers = queue.answers ++ more.answers;
-  room = room;
+  buffer_capacity = buffer_capacity;
 }
 
 -- they are for the same connection

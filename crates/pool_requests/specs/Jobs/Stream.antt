@@ -1,6 +1,6 @@
 -- The stream of a connection, and the records of it that were received.
 use Rattle.std.specs.Prelude.{◌≡◌, ℕ, List, [], ◌∷◌, ◌++◌, map}
-use Rattle.pool_requests.specs.declared.jobs.receiving.Received.{Received}
+use Rattle.pool_requests.specs.declared.jobs.received.Received.{Received}
 use Rattle.pool_requests.specs.Jobs.Received.{IsReceived}
 
 -- a connection's key and number; what came of its stream; the records that were received, in their order; what is left
@@ -12,7 +12,7 @@ pub record CutStream : Type 0 where
   pub left : List ℕ
 
 abbrev pub records_of : List (List ℕ × Unit {0}) → List (List ℕ)
-records_of noted = map (λ one. one.0) noted
+records_of traced = map (λ one. one.0) traced
 
 -- One record more is received, and as this.
 pub record ReceivesNext (old : CutStream) (received : Received) (new : CutStream) : Type 0 where

@@ -3,9 +3,9 @@ ghost use Rattle.std.specs.Prelude.{◌≡◌};
 ghost use Rattle.session_wire.specs.Replies.{body_of};
 
 use crate::answers::Evidence;
-use crate::jobs::{Immediate, Ticket};
+use crate::jobs::{Immediate, ReplyAddress};
 use nfs_types::{ProgramReply, Reply};
-use procs::Voucher;
+use procs::CommitWitness;
 use session_wire::{ReplyBody, RpcReply, append_reply};
 use std::alloc::Global;
 use std::marker::{Model, PhantomData};
@@ -55,7 +55,7 @@ impl<L: Ledger> Answer<L> {
     ghost use Rattle.std.specs.Prelude.{◌≡◌, ◌⊎◌, ◌++◌, false, true, Option, IfErr, OnErr, OnOk};
     ghost use Rattle.nfs_spec.specs.Model.Calls.{begins_transaction};
     ghost use Rattle.nfs_types.specs.declared.reply.Reply.TheVariants.{Null};
-    ghost use Rattle.pool_requests.specs.Answers.Evident.{IsEvident, IsInItsPlace, IsOwn, IsShownStable, answer_to};
+    ghost use Rattle.pool_requests.specs.Answers.Evident.{IsEvident, IsSubstitute, IsOwn, IsShownStable, answer_to};
     ghost use Rattle.pool_requests.specs.Answers.Evident.{with_reply};
     ghost use Rattle.pool_requests.specs.Answers.Written.{spelled};
     ghost use Rattle.pool_requests.specs.declared.answers.evidence.Evidence.TheVariants as evidence;
@@ -84,60 +84,60 @@ impl<L: Ledger> Answer<L> {
     /// The reply of a job's own procedure, which was committed. Who makes it has a share of the ledger of commits, which is
     /// at hand only where a seat of its core steps.
     pub fn of_change(
-        ticket: Ticket,
-        voucher: Voucher,
+        reply_address: ReplyAddress,
+        witness: CommitWitness,
         stable: Option<Stable>,
         reply: Reply,
         share: &Share<L>,
     ) -> Answer<L>
-        requires own { IsOwn ticket voucher.change }
-        requires reply { reply ≡ voucher.change.reply }
-        requires stable { IsShownStable ticket voucher stable }
-        ensures { result ≡ answer_to ticket.job (with_reply reply) (evidence.Committed ticket voucher stable) }
+        requires own { IsOwn reply_address witness.change }
+        requires reply { reply ≡ witness.change.reply }
+        requires stable { IsShownStable reply_address witness stable }
+        ensures { result ≡ answer_to reply_address.job (with_reply reply) (evidence.Committed reply_address witness stable) }
     {
         let _ = share;
-        voucher.finished();
-        let (key, number) = ticket.goes_to();
+        witness.finished();
+        let (key, number) = reply_address.goes_to();
         Answer {
             key,
             number,
-            xid: ticket.xid(),
+            xid: reply_address.xid(),
             body: ReplyBody::Done(ProgramReply::Nfs(reply)),
-            evidence: Evidence::Committed(ticket, voucher, stable),
+            evidence: Evidence::Committed(reply_address, witness, stable),
             of: PhantomData,
         }
     }
 
     /// One of the three in the place of a reply. Who makes it has a share of the ledger of commits, as above.
-    pub fn in_its_place(ticket: Ticket, body: ReplyBody, share: &Share<L>) -> Answer<L>
-        requires { IsInItsPlace ticket.job.call body }
-        ensures { result ≡ answer_to ticket.job body (evidence.InItsPlace ticket) }
+    pub fn substitute(reply_address: ReplyAddress, body: ReplyBody, share: &Share<L>) -> Answer<L>
+        requires { IsSubstitute reply_address.job.call body }
+        ensures { result ≡ answer_to reply_address.job body (evidence.Substitute reply_address) }
     {
         let _ = share;
-        let (key, number) = ticket.goes_to();
+        let (key, number) = reply_address.goes_to();
         Answer {
             key,
             number,
-            xid: ticket.xid(),
+            xid: reply_address.xid(),
             body,
-            evidence: Evidence::InItsPlace(ticket),
+            evidence: Evidence::Substitute(reply_address),
             of: PhantomData,
         }
     }
 
     /// To a job whose call begins no transaction. Who makes it has a share of the ledger of commits, as above.
-    pub fn of_nothing(ticket: Ticket, share: &Share<L>) -> Answer<L>
-        requires { begins_transaction ticket.job.call ≡ false }
-        ensures { result ≡ answer_to ticket.job (with_reply Null) (evidence.Nothing ticket) }
+    pub fn of_nothing(reply_address: ReplyAddress, share: &Share<L>) -> Answer<L>
+        requires { begins_transaction reply_address.job.call ≡ false }
+        ensures { result ≡ answer_to reply_address.job (with_reply Null) (evidence.Nothing reply_address) }
     {
         let _ = share;
-        let (key, number) = ticket.goes_to();
+        let (key, number) = reply_address.goes_to();
         Answer {
             key,
             number,
-            xid: ticket.xid(),
+            xid: reply_address.xid(),
             body: ReplyBody::Done(ProgramReply::Nfs(Reply::Null)),
-            evidence: Evidence::Nothing(ticket),
+            evidence: Evidence::Nothing(reply_address),
             of: PhantomData,
         }
     }

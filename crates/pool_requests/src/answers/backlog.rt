@@ -28,7 +28,7 @@ impl<L: Ledger> Model for Backlog<L> {
       number = b.number;
       bytes = b.bytes.items;
       answers = flat_map (λ one. one.0.answers) b.pieces.items;
-      room = vec_capacity b.bytes;
+      buffer_capacity = vec_capacity b.bytes;
     } };
 
     ghost invariant = { λ b. IsWritten b.key b.number b.bytes.items (flat_map (λ one. one.0.answers) b.pieces.items) };
@@ -41,7 +41,7 @@ impl<L: Ledger> Backlog<L> {
 
     /// Nothing, for the connection of this key and number.
     pub fn new(alloc: Global, key: usize, number: u64) -> Backlog<L>
-        ensures { result ≡ nothing_for key number result.room }
+        ensures { result ≡ nothing_for key number result.buffer_capacity }
     {
         Backlog {
             key,
@@ -53,7 +53,7 @@ impl<L: Ledger> Backlog<L> {
 
     /// Nothing, in a buffer that is used again, for the connection of this key and number.
     pub fn emptied(self, key: usize, number: u64) -> Backlog<L>
-        ensures { result ≡ nothing_for key number result.room }
+        ensures { result ≡ nothing_for key number result.buffer_capacity }
     {
         let mut bytes = self.bytes;
         bytes.clear();
@@ -99,12 +99,12 @@ impl<L: Ledger> Backlog<L> {
     #[tactic(auto, using(crate::proofs::AnswersLemmas::Puts::one_piece))]
     pub fn put(&mut self, replies: &mut ReplyBytes<L>) -> Put
         ensures done { result ≡ puts.Done → AreForOne replies.old self.old
-            × (self.new ≡ with_more replies.old self.new.room self.old) }
+            × (self.new ≡ with_more replies.old self.new.buffer_capacity self.old) }
         ensures used { result ≡ puts.Done → replies.new ≡ none_of replies.old }
         ensures another { result ≡ puts.Another → (AreForOne replies.old self.old → ⊥) × (self.new ≡ self.old) }
-        ensures refused { result ≡ puts.Refused → (self.new ≡ record self.old { room = self.new.room })
-            × (self.old.room < length self.old.bytes + length replies.old.bytes) }
-        ensures kept { (result ≡ puts.Another) ⊎ (result ≡ puts.Refused) → replies.new ≡ replies.old }
+        ensures refused { result ≡ puts.Refused → (self.new ≡ record self.old { buffer_capacity = self.new.buffer_capacity })
+            × (self.old.buffer_capacity < length self.old.bytes + length replies.old.bytes) }
+        ensures is_preserved { (result ≡ puts.Another) ⊎ (result ≡ puts.Refused) → replies.new ≡ replies.old }
     {
         if !self.is_for(replies) {
             return Put::Another;
@@ -114,13 +114,13 @@ impl<L: Ledger> Backlog<L> {
             return Put::Refused;
         }
         self.pieces = self.pieces.and(&*replies, &());
-        replies.clear();
+        replies.empty_out();
         Put::Done
     }
 
     /// Lets go of all.
-    pub fn clear(&mut self)
-        ensures { self.new ≡ nothing_for self.old.key self.old.number self.new.room }
+    pub fn empty_out(&mut self)
+        ensures { self.new ≡ nothing_for self.old.key self.old.number self.new.buffer_capacity }
     {
         self.bytes.clear();
         self.pieces = Log::new();

@@ -1,7 +1,7 @@
 //! What shows that an answer may be given.
 
-use crate::jobs::{Immediate, Ticket};
-use procs::Voucher;
+use crate::jobs::{Immediate, ReplyAddress};
+use procs::CommitWitness;
 use std::snapshot::Snapshot;
 use txn::Stable;
 
@@ -11,9 +11,9 @@ pub enum Evidence {
     /// The record begins no transaction: this is the reply to it.
     Immediate(Snapshot<Immediate>),
     /// The job's procedure was committed; and where its reply has to be stable, its place is settled.
-    Committed(Ticket, Voucher, Option<Stable>),
+    Committed(ReplyAddress, CommitWitness, Option<Stable>),
     /// The job is answered one of the three in the place of its reply.
-    InItsPlace(Ticket),
+    Substitute(ReplyAddress),
     /// The job's call begins no transaction.
-    Nothing(Ticket),
+    Nothing(ReplyAddress),
 }

@@ -88,7 +88,7 @@ impl<L: Ledger> ReplyBytes<L> {
           answers = self.old.answers ++ answer ∷ [];
         }) }
         ensures another { result ≡ puts.Another → (IsFor self.old.key self.old.number answer → ⊥) }
-        ensures kept { (result ≡ puts.Another) ⊎ (result ≡ puts.Refused) → self.new ≡ self.old }
+        ensures is_preserved { (result ≡ puts.Another) ⊎ (result ≡ puts.Refused) → self.new ≡ self.old }
     {
         let put = self.put_one(alloc, &answer);
         drop(answer);
@@ -103,7 +103,7 @@ impl<L: Ledger> ReplyBytes<L> {
           answers = self.old.answers ++ answer.now ∷ [];
         }) }
         ensures another { result ≡ puts.Another → (IsFor self.old.key self.old.number answer.now → ⊥) }
-        ensures kept { (result ≡ puts.Another) ⊎ (result ≡ puts.Refused) → self.new ≡ self.old }
+        ensures is_preserved { (result ≡ puts.Another) ⊎ (result ≡ puts.Refused) → self.new ≡ self.old }
     {
         let (key, number) = answer.goes_to();
         if key != self.key || number != self.number {
@@ -119,7 +119,7 @@ impl<L: Ledger> ReplyBytes<L> {
     }
 
     /// Lets go of all.
-    pub fn clear(&mut self)
+    pub fn empty_out(&mut self)
         ensures { self.new ≡ none_of self.old }
     {
         self.bytes.clear();

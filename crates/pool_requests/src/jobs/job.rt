@@ -2,7 +2,7 @@
 ghost use Rattle.nfs_types.specs.Fits.{AreBytes};
 ghost use Rattle.pool_requests.specs.Jobs.Spelled.{SpellsJob};
 
-use crate::jobs::Ticket;
+use crate::jobs::ReplyAddress;
 use bytes::Bytes;
 use nfs_types::{Call, Credential, Moment};
 use std::snapshot::Snapshot;
@@ -33,8 +33,8 @@ impl Job {
     }
 
     /// Takes it up at a moment: where its answer goes; and who calls, and what, a call that can be spelled.
-    pub fn take_up(self, moment: Moment) -> (Ticket, Credential, Call)
-        ensures ticket { result.0 ≡ record { job = self; moment = moment } }
+    pub fn take_up(self, moment: Moment) -> (ReplyAddress, Credential, Call)
+        ensures reply_address { result.0 ≡ record { job = self; moment = moment } }
         ensures parts { (result.1 ≡ self.credential) × (result.2 ≡ self.call) }
         ensures fits { CallFits result.2 }
     {
@@ -47,13 +47,13 @@ impl Job {
             call,
             message: _,
         } = self;
-        let ticket = Ticket {
+        let reply_address = ReplyAddress {
             key,
             number,
             xid,
             job,
             moment: Snapshot::of(&moment),
         };
-        (ticket, credential, call)
+        (reply_address, credential, call)
     }
 }

@@ -1,7 +1,7 @@
 //! A connection's stream, of which each record is received once.
 
 use crate::jobs::ConnectionKey;
-use crate::jobs::receiving::{Received, receive};
+use crate::jobs::received::{Received, receive};
 use bytes::Bytes;
 use http_server::Log;
 use rpc::{Records, RpcFault};

@@ -9,9 +9,9 @@ use Rattle.nfs_spec.specs.Model.Node.{Node}
 use Rattle.nfs_spec.specs.Model.SetAttr.{first_of_tests}
 use Rattle.nfs_spec.specs.Model.Tree.{Tree}
 use Rattle.nfs_spec.specs.Procedures.FirstTests.{found_then, unless}
-use Rattle.nfs_spec.specs.Procedures.Told.{Acts, Effect, answer_of, attributes_at, change_told, tree_after}
+use Rattle.nfs_spec.specs.Procedures.StepForms.{Acts, Effect, answer_of, attributes_at, change_between, tree_after}
 use Rattle.procs_files.specs.Heads.{IsDone, IsNamed, node_of}
-use Rattle.procs_files.specs.declared.head.Head.{Head}
+use Rattle.procs_files.specs.declared.inode_attributes.InodeAttributes.{InodeAttributes}
 
 -- ---- tests in two parts
 
@@ -66,35 +66,35 @@ unless_passed refusal act is = ap (λ r. unless r act) is
 -- ---- the whole call
 
 module _ {A : Type 0} (tree : Tree) (handle : List ℕ) (act : ℕ → Node → Result (Effect A) Status)
-    (stands : Tree → Type 0) (outcome : Result A Status) (told : WeakCacheData) where
-  pub acted : (head : Head) (named : IsNamed tree (find_file tree handle) (Ok head))
-      → IsDone stands tree (act head.number (node_of head named.0)) outcome
-      → ((next : Tree) → stands next → told ≡ record {
-        before = Some (before_change (node_of head named.0));
-        after = attributes_at next head.number;
+    (stands : Tree → Type 0) (outcome : Result A Status) (file_attributes : WeakCacheData) where
+  pub acted : (inode_attributes : InodeAttributes) (named : IsNamed tree (find_file tree handle) (Ok inode_attributes))
+      → IsDone stands tree (act inode_attributes.number (node_of inode_attributes named.0)) outcome
+      → ((next : Tree) → stands next → file_attributes ≡ record {
+        before = Some (before_change (node_of inode_attributes named.0));
+        after = attributes_at next inode_attributes.number;
       })
-      → (next : Tree) × Acts tree handle act outcome told next × stands next
-  acted head named done tell =
-      let node = node_of head named.0 in
-      let next = tree_after tree (act head.number node) in (
+      → (next : Tree) × Acts tree handle act outcome file_attributes next × stands next
+  acted inode_attributes named done tell =
+      let node = node_of inode_attributes named.0 in
+      let next = tree_after tree (act inode_attributes.number node) in (
         next,
         record {
           answered = done.answered ∙ ap (λ f. answer_of (found_then f act)) (sym named.1);
           leads = ap (λ f. tree_after tree (found_then f act)) (sym named.1);
-          parts = tell next done.leads ∙ ap (change_told next) (sym named.1);
+          parts = tell next done.leads ∙ ap (change_between next) (sym named.1);
         },
         done.leads,
       )
 
   pub not_acted : (why : Status) → IsNamed tree (find_file tree handle) (Err why) → outcome ≡ Err why
-      → told ≡ untold → stands tree
-      → (next : Tree) × Acts tree handle act outcome told next × stands next
+      → file_attributes ≡ untold → stands tree
+      → (next : Tree) × Acts tree handle act outcome file_attributes next × stands next
   not_acted why named is none at = (
     tree,
     record {
       answered = is ∙ ap (λ f. answer_of (found_then f act)) (sym named);
       leads = ap (λ f. tree_after tree (found_then f act)) (sym named);
-      parts = none ∙ ap (change_told tree) (sym named);
+      parts = none ∙ ap (change_between tree) (sym named);
     },
     at,
   )

@@ -7,41 +7,41 @@ use Rattle.nfs_types.specs.Fits.{AreBytes}
 use Rattle.nfs_types.specs.declared.ctx.Moment.{Moment}
 use Rattle.nfs_types.specs.declared.verifier.Verifier.{Verifier}
 use Rattle.nfs_spec.specs.Model.Names.{is_directory, parent_of}
-use Rattle.nfs_spec.specs.Model.Node.{Node, Body, DirectoryEntry, Regular, Directory, Link}
+use Rattle.nfs_spec.specs.Model.Node.{Node, Body, DirentValue, Regular, Directory, Link}
 use Rattle.nfs_spec.specs.Model.Sound.{Sound, SoundTime, SoundVerifier}
 use Rattle.nfs_spec.specs.Model.Tree.{Tree, free, node_at}
-use Rattle.nfs_spec.proofs.ProceduresLemmas.Deeds.{Placed}
-use Rattle.nfs_spec.proofs.ProceduresLemmas.Entering.{least_is_free, sound_name}
-use Rattle.nfs_spec.proofs.ProceduresLemmas.Soundness.{no_entry}
-use Rattle.nfs_spec.specs.Procedures.Changes.{entered, parent_links, with_entry}
+use Rattle.nfs_spec.proofs.ProceduresLemmas.TreeChanges.{Placed}
+use Rattle.nfs_spec.proofs.ProceduresLemmas.NameChanges.{least_is_free, sound_name}
+use Rattle.nfs_spec.proofs.ProceduresLemmas.Soundness.{no_dirent}
+use Rattle.nfs_spec.specs.Procedures.Changes.{entered, parent_links, with_dirent}
 use Rattle.nfs_spec.specs.Procedures.Places.{is_taken_slot, least_free_slot, named_file}
-use Rattle.procs_files.specs.Changing.{CanEnter, adds}
-use Rattle.procs_names.proofs.LinksLemmas.Near.{least_is_near}
+use Rattle.procs_files.specs.Writable.{CanEnter, adds}
+use Rattle.procs_names.proofs.LinksLemmas.WithinSpan.{least_is_within_span}
 use Rattle.procs_names.proofs.LinksLemmas.SoundShapes.{sound_shape}
 use Rattle.procs_names.specs.Links.Shapes.{CanEnterAt, IsShaped}
 
-verifier_entered : (name : List ℕ) (entry : DirectoryEntry) (body : Body) (verifier : Option Verifier)
-    → SoundVerifier body verifier → SoundVerifier (with_entry name entry body) verifier
-verifier_entered name entry (Regular bytes mapped) verifier good = good
-verifier_entered name entry (Directory named span parent) verifier good = good
-verifier_entered name entry (Link target) verifier good = good
+verifier_entered : (name : List ℕ) (dirent : DirentValue) (body : Body) (verifier : Option Verifier)
+    → SoundVerifier body verifier → SoundVerifier (with_dirent name dirent body) verifier
+verifier_entered name dirent (Regular bytes mapped) verifier good = good
+verifier_entered name dirent (Directory named span parent) verifier good = good
+verifier_entered name dirent (Link target) verifier good = good
 
-kind_entered : (name : List ℕ) (entry : DirectoryEntry) (body : Body)
-    → is_directory (with_entry name entry body) ≡ is_directory body
-kind_entered name entry (Regular bytes mapped) = refl
-kind_entered name entry (Directory named span parent) = refl
-kind_entered name entry (Link target) = refl
+kind_entered : (name : List ℕ) (dirent : DirentValue) (body : Body)
+    → is_directory (with_dirent name dirent body) ≡ is_directory body
+kind_entered name dirent (Regular bytes mapped) = refl
+kind_entered name dirent (Directory named span parent) = refl
+kind_entered name dirent (Link target) = refl
 
-parent_entered : (name : List ℕ) (entry : DirectoryEntry) (body : Body)
-    → parent_of (with_entry name entry body) ≡ parent_of body
-parent_entered name entry (Regular bytes mapped) = refl
-parent_entered name entry (Directory named span parent) = refl
-parent_entered name entry (Link target) = refl
+parent_entered : (name : List ℕ) (dirent : DirentValue) (body : Body)
+    → parent_of (with_dirent name dirent body) ≡ parent_of body
+parent_entered name dirent (Regular bytes mapped) = refl
+parent_entered name dirent (Directory named span parent) = refl
+parent_entered name dirent (Link target) = refl
 
-pub shaped_entered : (inodes : ℕ) (moment : Moment) (name : List ℕ) (entry : DirectoryEntry) (file : Body)
+pub shaped_entered : (inodes : ℕ) (moment : Moment) (name : List ℕ) (dirent : DirentValue) (file : Body)
     (node : Node) → IsShaped inodes node → SoundTime moment → node.nlink + parent_links file ≤ MOST_LINKS
-    → IsShaped inodes (entered moment name entry file node)
-shaped_entered inodes moment name entry file node shaped now few =
+    → IsShaped inodes (entered moment name dirent file node)
+shaped_entered inodes moment name dirent file node shaped now few =
     let linked = shaped.linked in
     record {
       mode = shaped.mode;
@@ -53,11 +53,11 @@ shaped_entered inodes moment name entry file node shaped now few =
       mtime = now;
       ctime = now;
       stamp = shaped.stamp;
-      verifier = verifier_entered name entry node.body node.verifier shaped.verifier;
+      verifier = verifier_entered name dirent node.body node.verifier shaped.verifier;
       directory = λ dir.
-          let known = shaped.directory (sym (kind_entered name entry node.body) ∙ dir) in
+          let known = shaped.directory (sym (kind_entered name dirent node.body) ∙ dir) in
           let two = known.0 in
-          let parent = sym (parent_entered name entry node.body) in (
+          let parent = sym (parent_entered name dirent node.body) in (
             omega (arith, two),
             subst (λ p. 0 < p) parent known.1,
             subst (λ p. p < inodes) parent known.2,
@@ -66,16 +66,16 @@ shaped_entered inodes moment name entry file node shaped now few =
 
 -- a directory of which all this is known
 pub can_enter_at : (tree : Tree) (at : ℕ) (directory : Node) → node_at tree at ≡ Some directory
-    → (moment : Moment) (name : List ℕ) (entry : DirectoryEntry) (file : Body)
-    → IsShaped tree.geometry.inodes (entered moment name entry file directory)
-    → CanEnter tree directory.body name entry
-    → adds (with_entry name entry directory.body) directory.body ≤ free tree
-    → CanEnterAt tree moment at name entry file
-can_enter_at tree at directory stands moment name entry file shaped enters room = record {
-  shaped = λ node is. subst (λ n. IsShaped tree.geometry.inodes (entered moment name entry file n))
+    → (moment : Moment) (name : List ℕ) (dirent : DirentValue) (file : Body)
+    → IsShaped tree.geometry.inodes (entered moment name dirent file directory)
+    → CanEnter tree directory.body name dirent
+    → adds (with_dirent name dirent directory.body) directory.body ≤ free tree
+    → CanEnterAt tree moment at name dirent file
+can_enter_at tree at directory stands moment name dirent file shaped enters has_space = record {
+  shaped = λ node is. subst (λ n. IsShaped tree.geometry.inodes (entered moment name dirent file n))
       (one node is) shaped;
-  enters = λ node is. subst (λ n. CanEnter tree n.body name entry) (one node is) enters;
-  room = λ node is. subst (λ n. adds (with_entry name entry n.body) n.body ≤ free tree) (one node is) room;
+  enters = λ node is. subst (λ n. CanEnter tree n.body name dirent) (one node is) enters;
+  has_space = λ node is. subst (λ n. adds (with_dirent name dirent n.body) n.body ≤ free tree) (one node is) has_space;
 }
   where
     one : (node : Node) → node_at tree at ≡ Some node → directory ≡ node
@@ -102,26 +102,26 @@ not_taken body slot is =
 -- a new name in the least free slot
 pub can_enter_new : (tree : Tree) → Sound tree → (at : ℕ) (directory : Node) → node_at tree at ≡ Some directory
     → (moment : Moment) → SoundTime moment → (name : List ℕ) → Placed directory name → AreBytes name
-    → named_file tree directory name ≡ None → (entry : DirectoryEntry)
-    → least_free_slot directory.body ≡ Some entry.slot → 0 < entry.number
-    → entry.number < tree.geometry.inodes → (file : Body)
+    → named_file tree directory name ≡ None → (dirent : DirentValue)
+    → least_free_slot directory.body ≡ Some dirent.slot → 0 < dirent.number
+    → dirent.number < tree.geometry.inodes → (file : Body)
     → directory.nlink + parent_links file ≤ MOST_LINKS
-    → adds (with_entry name entry directory.body) directory.body ≤ free tree
-    → CanEnterAt tree moment at name entry file
-can_enter_new tree good at directory stands moment now name placed bytes absent entry slot some within file few room =
-    can_enter_at tree at directory stands moment name entry file
-    (shaped_entered tree.geometry.inodes moment name entry file directory
+    → adds (with_dirent name dirent directory.body) directory.body ≤ free tree
+    → CanEnterAt tree moment at name dirent file
+can_enter_new tree good at directory stands moment now name placed bytes absent dirent slot some within file few has_space =
+    can_enter_at tree at directory stands moment name dirent file
+    (shaped_entered tree.geometry.inodes moment name dirent file directory
     (sound_shape tree good at directory stands) now few)
     (record {
       directory = placed.directory_is;
       lawful = sound_name directory name placed bytes;
       some = some;
       within = within;
-      slot = (least_is_free directory.body entry.slot slot).1;
-      near = least_is_near directory.body entry.slot (good.files at directory stands).itself.body
-          (least_is_free directory.body entry.slot slot).1 slot;
+      slot = (least_is_free directory.body dirent.slot slot).1;
+      within_span = least_is_within_span directory.body dirent.slot (good.files at directory stands).itself.body
+          (least_is_free directory.body dirent.slot slot).1 slot;
       own = inl (
-        no_entry tree good at directory stands name absent,
-        not_taken directory.body entry.slot slot,
+        no_dirent tree good at directory stands name absent,
+        not_taken directory.body dirent.slot slot,
       );
-    }) room
+    }) has_space

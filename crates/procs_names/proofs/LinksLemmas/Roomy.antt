@@ -3,7 +3,7 @@ use Rattle.std.proofs.Common.{◌≡◌, ℕ, ◌+◌, sym, ap, ◌∙◌, true,
 use Rattle.nfs_spec.specs.Model.Node.{Body}
 use Rattle.nfs_spec.specs.Model.Tree.{Tree, free}
 use Rattle.nfs_spec.specs.Procedures.Places.{least_free_slot}
-use Rattle.procs_names.specs.Links.Rooms.{IsCramped, IsRoomyIn, entry_adds}
+use Rattle.procs_names.specs.Links.Rooms.{IsCramped, IsRoomyIn, dirent_adds}
 
 pub no_slot : (tree : Tree) (size : ℕ) (body : Body) (more : ℕ) → None ≡ least_free_slot body
     → IsCramped tree size body more
@@ -12,15 +12,15 @@ no_slot tree size body more none = record {
 }
 
 pub roomy : (tree : Tree) (size : ℕ) (body : Body) (more slot : ℕ) (has : Bool) → Some slot ≡ least_free_slot body
-    → has ≡ nat_le (entry_adds size slot + more) (free tree) → has ≡ true → IsRoomyIn tree size body more slot
-roomy tree size body more slot has is room passes = record { least = sym is; room = sym room ∙ passes }
+    → has ≡ nat_le (dirent_adds size slot + more) (free tree) → has ≡ true → IsRoomyIn tree size body more slot
+roomy tree size body more slot has is has_space passes = record { least = sym is; has_space = sym has_space ∙ passes }
 
 pub cramped : (tree : Tree) (size : ℕ) (body : Body) (more slot : ℕ) (has : Bool)
     → Some slot ≡ least_free_slot body
-    → has ≡ nat_le (entry_adds size slot + more) (free tree) → has ≡ false → IsCramped tree size body more
-cramped tree size body more slot has is room fails = record {
+    → has ≡ nat_le (dirent_adds size slot + more) (free tree) → has ≡ false → IsCramped tree size body more
+cramped tree size body more slot has is has_space fails = record {
   full = λ other there.
       let one : Some slot ≡ Some other = is ∙ there in
       let same : slot ≡ other = cc in
-      ap (λ s. nat_le (entry_adds size s + more) (free tree)) (sym same) ∙ sym room ∙ fails;
+      ap (λ s. nat_le (dirent_adds size s + more) (free tree)) (sym same) ∙ sym has_space ∙ fails;
 }

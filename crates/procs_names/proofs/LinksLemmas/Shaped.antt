@@ -7,19 +7,19 @@ use Rattle.nfs_types.specs.declared.ctx.Moment.{Moment}
 use Rattle.nfs_types.specs.declared.verifier.Verifier.{Verifier}
 use Rattle.nfs_spec.specs.Model.Attributes.{kind_of}
 use Rattle.nfs_spec.specs.Model.Names.{is_directory, parent_of}
-use Rattle.nfs_spec.specs.Model.Node.{Node, Body, DirectoryEntry, Regular, Directory, Link}
+use Rattle.nfs_spec.specs.Model.Node.{Node, Body, DirentValue, Regular, Directory, Link}
 use Rattle.nfs_spec.specs.Model.Sound.{SoundVerifier}
 use Rattle.nfs_spec.specs.Model.Tree.{Tree, free, node_at, with_node}
 use Rattle.nfs_spec.proofs.ProceduresLemmas.Lacking.{put_change}
 use Rattle.nfs_spec.proofs.ProceduresLemmas.Soundness.{changed_is}
 use Rattle.nfs_spec.specs.Procedures.Link.{linked}
 use Rattle.nfs_spec.specs.Procedures.Changes.{changed_at, departed, entered, is_last_name, parent_links, unnamed, with_file}
-use Rattle.nfs_spec.specs.Procedures.Changes.{with_entry, without_entry, without_node}
+use Rattle.nfs_spec.specs.Procedures.Changes.{with_dirent, without_dirent, without_node}
 use Rattle.nfs_spec.specs.Procedures.Rename.{with_parent}
 use Rattle.procs_files.proofs.KindsAgree.{kinds_agree}
-use Rattle.procs_files.specs.Changing.{CanEnter, SoundHead, adds}
+use Rattle.procs_files.specs.Writable.{CanEnter, SoundInodeAttributes, adds}
 use Rattle.procs_files.specs.Heads.{IsBodyOf, IsFileAt, IsFileIn, is_kind_directory, node_of, shell}
-use Rattle.procs_files.specs.declared.head.Head.{Head}
+use Rattle.procs_files.specs.declared.inode_attributes.InodeAttributes.{InodeAttributes}
 use Rattle.procs_names.specs.Links.Shapes.{CanChange, CanEnterAt, CanLose, IsShaped, less_linked}
 
 -- ---- heads
@@ -29,15 +29,15 @@ kind_directory (Regular bytes mapped) = refl
 kind_directory (Directory named span parent) = refl
 kind_directory (Link target) = refl
 
-verifier_by : (head : Head) (body : Body) (verifier : Option Verifier) → SoundVerifier body verifier
-    → SoundVerifier (shell (record head { kind = kind_of body })) verifier
-verifier_by head (Regular bytes mapped) verifier good = good
-verifier_by head (Directory named span parent) verifier good = good
-verifier_by head (Link target) verifier good = good
+verifier_by : (inode_attributes : InodeAttributes) (body : Body) (verifier : Option Verifier) → SoundVerifier body verifier
+    → SoundVerifier (shell (record inode_attributes { kind = kind_of body })) verifier
+verifier_by inode_attributes (Regular bytes mapped) verifier good = good
+verifier_by inode_attributes (Directory named span parent) verifier good = good
+verifier_by inode_attributes (Link target) verifier good = good
 
-pub shaped_head : (inodes : ℕ) (head : Head) (body : Body) → kind_of body ≡ head.kind
-    → parent_of body ≡ head.parent → IsShaped inodes (node_of head body) → SoundHead inodes head
-shaped_head inodes head body kind parent shaped = record {
+pub shaped_inode_attributes : (inodes : ℕ) (inode_attributes : InodeAttributes) (body : Body) → kind_of body ≡ inode_attributes.kind
+    → parent_of body ≡ inode_attributes.parent → IsShaped inodes (node_of inode_attributes body) → SoundInodeAttributes inodes inode_attributes
+shaped_inode_attributes inodes inode_attributes body kind parent shaped = record {
   mode = shaped.mode;
   uid = shaped.uid;
   gid = shaped.gid;
@@ -47,8 +47,8 @@ shaped_head inodes head body kind parent shaped = record {
   mtime = shaped.mtime;
   ctime = shaped.ctime;
   stamp = shaped.stamp;
-  verifier = subst (λ k. SoundVerifier (shell (record head { kind = k })) head.verifier) kind
-      (verifier_by head body head.verifier shaped.verifier);
+  verifier = subst (λ k. SoundVerifier (shell (record inode_attributes { kind = k })) inode_attributes.verifier) kind
+      (verifier_by inode_attributes body inode_attributes.verifier shaped.verifier);
   directory = λ dir.
       let known = shaped.directory (kind_directory body ∙ ap is_kind_directory kind ∙ dir) in (
         known.0,
@@ -62,45 +62,45 @@ own_parent parent (Regular bytes mapped) is = refl
 own_parent parent (Directory named span old) is = ap (Directory named span) (sym is)
 own_parent parent (Link target) is = refl
 
-pub links_agree : (file : Head) (body : Body) → IsBodyOf file body
+pub links_agree : (file : InodeAttributes) (body : Body) → IsBodyOf file body
     → parent_links (shell file) ≡ parent_links body
 links_agree file body fits = ap (λ b. cond b 1 0) (sym (kinds_agree file body fits.kind))
 
-fits_departed : (head : Head) (name : List ℕ) (body : Body) → IsBodyOf head body
-    → IsBodyOf head (without_entry name body)
-fits_departed head name (Regular bytes mapped) fits = fits
-fits_departed head name (Directory named span parent) fits = record {
+fits_departed : (inode_attributes : InodeAttributes) (name : List ℕ) (body : Body) → IsBodyOf inode_attributes body
+    → IsBodyOf inode_attributes (without_dirent name body)
+fits_departed inode_attributes name (Regular bytes mapped) fits = fits
+fits_departed inode_attributes name (Directory named span parent) fits = record {
   kind = fits.kind;
   size = fits.size;
   used = fits.used;
   parent = fits.parent;
 }
-fits_departed head name (Link target) fits = fits
+fits_departed inode_attributes name (Link target) fits = fits
 
 -- ---- a name goes
 
-module _ (tree : Tree) (number : ℕ) (moment : Moment) (name : List ℕ) (file : Head) (body : Body)
+module _ (tree : Tree) (number : ℕ) (moment : Moment) (name : List ℕ) (file : InodeAttributes) (body : Body)
     (fits : IsBodyOf file body) (stands : Tree → Type 0) where
   pub departed_none : IsFileAt tree number None → stands tree
       → stands (changed_at tree number (departed moment name body))
   departed_none none is = subst stands (ap (λ o. with_file tree number (option_map (departed moment name body) o))
       (sym none)) is
 
-  pub departed_some : (old : Head) (nlink links : ℕ) → IsFileAt tree number (Some old)
+  pub departed_some : (old : InodeAttributes) (nlink links : ℕ) → IsFileAt tree number (Some old)
       → nlink ≡ old.nlink - links → links ≡ parent_links (shell file)
       → CanChange tree number (departed moment name body)
-      → (let head : Head = record old { nlink = nlink; mtime = moment; ctime = moment } in
-      (node : Node) → node_at tree old.number ≡ Some node → IsBodyOf head node.body
-      → SoundHead tree.geometry.inodes head
-      → stands (with_node tree old.number (node_of head (without_entry name node.body))))
+      → (let inode_attributes : InodeAttributes = record old { nlink = nlink; mtime = moment; ctime = moment } in
+      (node : Node) → node_at tree old.number ≡ Some node → IsBodyOf inode_attributes node.body
+      → SoundInodeAttributes tree.geometry.inodes inode_attributes
+      → stands (with_node tree old.number (node_of inode_attributes (without_dirent name node.body))))
       → stands (changed_at tree number (departed moment name body))
   departed_some old nlink links at nlink_is links_are can then =
       let inside = at.1.0 in
       let node = node_of old inside in
       let there = at.1.1.there in
       let was = at.1.1.fits in
-      let head : Head = record old { nlink = nlink; mtime = moment; ctime = moment } in
-      let is : IsBodyOf head inside = record {
+      let inode_attributes : InodeAttributes = record old { nlink = nlink; mtime = moment; ctime = moment } in
+      let is : IsBodyOf inode_attributes inside = record {
         kind = was.kind;
         size = was.size;
         used = was.used;
@@ -108,11 +108,11 @@ module _ (tree : Tree) (number : ℕ) (moment : Moment) (name : List ℕ) (file 
       } in
       let links_is : nlink ≡ old.nlink - parent_links body =
       nlink_is ∙ ap (λ n. old.nlink - n) (links_are ∙ links_agree file body fits) in
-      let new : node_of head (without_entry name inside) ≡ departed moment name body node =
-      λ i. node_of (record head { nlink = links_is i }) (without_entry name inside) in
+      let new : node_of inode_attributes (without_dirent name inside) ≡ departed moment name body node =
+      λ i. node_of (record inode_attributes { nlink = links_is i }) (without_dirent name inside) in
       let shaped = can node (ap (node_at tree) (sym at.0) ∙ there) in
-      let left = fits_departed head name inside is in
-      let sound = shaped_head tree.geometry.inodes head (without_entry name inside) left.kind left.parent
+      let left = fits_departed inode_attributes name inside is in
+      let sound = shaped_inode_attributes tree.geometry.inodes inode_attributes (without_dirent name inside) left.kind left.parent
       (subst (IsShaped tree.geometry.inodes) (sym new) shaped) in
       subst stands (
       ap (with_node tree old.number) new ∙ sym (changed_is tree old.number (departed moment name body) node there)
@@ -121,41 +121,41 @@ module _ (tree : Tree) (number : ℕ) (moment : Moment) (name : List ℕ) (file 
 
 -- ---- a name comes
 
-same_kind_entered : (name : List ℕ) (entry : DirectoryEntry) (body : Body)
-    → kind_of (with_entry name entry body) ≡ kind_of body
-same_kind_entered name entry (Regular bytes mapped) = refl
-same_kind_entered name entry (Directory named span parent) = refl
-same_kind_entered name entry (Link target) = refl
+same_kind_entered : (name : List ℕ) (dirent : DirentValue) (body : Body)
+    → kind_of (with_dirent name dirent body) ≡ kind_of body
+same_kind_entered name dirent (Regular bytes mapped) = refl
+same_kind_entered name dirent (Directory named span parent) = refl
+same_kind_entered name dirent (Link target) = refl
 
-same_parent_entered : (name : List ℕ) (entry : DirectoryEntry) (body : Body)
-    → parent_of (with_entry name entry body) ≡ parent_of body
-same_parent_entered name entry (Regular bytes mapped) = refl
-same_parent_entered name entry (Directory named span parent) = refl
-same_parent_entered name entry (Link target) = refl
+same_parent_entered : (name : List ℕ) (dirent : DirentValue) (body : Body)
+    → parent_of (with_dirent name dirent body) ≡ parent_of body
+same_parent_entered name dirent (Regular bytes mapped) = refl
+same_parent_entered name dirent (Directory named span parent) = refl
+same_parent_entered name dirent (Link target) = refl
 
-module _ (tree : Tree) (number : ℕ) (moment : Moment) (name : List ℕ) (entry : DirectoryEntry) (file : Head)
+module _ (tree : Tree) (number : ℕ) (moment : Moment) (name : List ℕ) (dirent : DirentValue) (file : InodeAttributes)
     (body : Body) (fits : IsBodyOf file body) (stands : Tree → Type 0) where
   pub entered_none : IsFileAt tree number None → stands tree
-      → stands (changed_at tree number (entered moment name entry body))
+      → stands (changed_at tree number (entered moment name dirent body))
   entered_none none is = subst stands (ap (λ o. with_file tree number (option_map
-      (entered moment name entry body) o)) (sym none)) is
+      (entered moment name dirent body) o)) (sym none)) is
 
-  pub entered_some : (old : Head) (nlink links : ℕ) → IsFileAt tree number (Some old)
+  pub entered_some : (old : InodeAttributes) (nlink links : ℕ) → IsFileAt tree number (Some old)
       → (old.nlink + links < 2 ^ 32 → nlink ≡ old.nlink + links) → links ≡ parent_links (shell file)
-      → CanEnterAt tree moment number name entry body
-      → (let head : Head = record old { nlink = nlink; mtime = moment; ctime = moment } in
-      (node : Node) → node_at tree old.number ≡ Some node → IsBodyOf head node.body
-      → SoundHead tree.geometry.inodes head → CanEnter tree node.body name entry
-      → adds (with_entry name entry node.body) node.body ≤ free tree
-      → stands (with_node tree old.number (node_of head (with_entry name entry node.body))))
-      → stands (changed_at tree number (entered moment name entry body))
+      → CanEnterAt tree moment number name dirent body
+      → (let inode_attributes : InodeAttributes = record old { nlink = nlink; mtime = moment; ctime = moment } in
+      (node : Node) → node_at tree old.number ≡ Some node → IsBodyOf inode_attributes node.body
+      → SoundInodeAttributes tree.geometry.inodes inode_attributes → CanEnter tree node.body name dirent
+      → adds (with_dirent name dirent node.body) node.body ≤ free tree
+      → stands (with_node tree old.number (node_of inode_attributes (with_dirent name dirent node.body))))
+      → stands (changed_at tree number (entered moment name dirent body))
   entered_some old nlink links at nlink_is links_are can then =
       let inside = at.1.0 in
       let node = node_of old inside in
       let there = at.1.1.there in
       let was = at.1.1.fits in
-      let head : Head = record old { nlink = nlink; mtime = moment; ctime = moment } in
-      let is : IsBodyOf head inside = record {
+      let inode_attributes : InodeAttributes = record old { nlink = nlink; mtime = moment; ctime = moment } in
+      let is : IsBodyOf inode_attributes inside = record {
         kind = was.kind;
         size = was.size;
         used = was.used;
@@ -168,48 +168,48 @@ module _ (tree : Tree) (number : ℕ) (moment : Moment) (name : List ℕ) (entry
       let small : old.nlink + links < 2 ^ 32 = omega (arith, few, links_same) in
       let links_is : nlink ≡ old.nlink + parent_links body =
       nlink_is small ∙ ap (λ n. old.nlink + n) links_same in
-      let new : node_of head (with_entry name entry inside) ≡ entered moment name entry body node =
-      λ i. node_of (record head { nlink = links_is i }) (with_entry name entry inside) in
-      let sound = shaped_head tree.geometry.inodes head (with_entry name entry inside)
-      (same_kind_entered name entry inside ∙ was.kind) (same_parent_entered name entry inside ∙ was.parent)
+      let new : node_of inode_attributes (with_dirent name dirent inside) ≡ entered moment name dirent body node =
+      λ i. node_of (record inode_attributes { nlink = links_is i }) (with_dirent name dirent inside) in
+      let sound = shaped_inode_attributes tree.geometry.inodes inode_attributes (with_dirent name dirent inside)
+      (same_kind_entered name dirent inside ∙ was.kind) (same_parent_entered name dirent inside ∙ was.parent)
       (subst (IsShaped tree.geometry.inodes) (sym new) shaped) in
       subst stands (
       ap (with_node tree old.number) new
-      ∙ sym (changed_is tree old.number (entered moment name entry body) node there)
-      ∙ ap (λ n. changed_at tree n (entered moment name entry body)) at.0
-      ) (then node there is sound (can.enters node here) (can.room node here))
+      ∙ sym (changed_is tree old.number (entered moment name dirent body) node there)
+      ∙ ap (λ n. changed_at tree n (entered moment name dirent body)) at.0
+      ) (then node there is sound (can.enters node here) (can.has_space node here))
 
 -- ---- links of a file
 
 -- a file whose links and time of change are set
-pub relinked : (tree : Tree) (file : Head) (body : Body) (nlink : ℕ) (moment : Moment) (stands : Tree → Type 0)
+pub relinked : (tree : Tree) (file : InodeAttributes) (body : Body) (nlink : ℕ) (moment : Moment) (stands : Tree → Type 0)
     → IsFileIn tree file body
     → IsShaped tree.geometry.inodes (record (node_of file body) { nlink = nlink; ctime = moment })
-    → (let head : Head = record file { nlink = nlink; ctime = moment } in
-    (node : Node) → node_at tree file.number ≡ Some node → IsBodyOf head (with_parent file.parent node.body)
-    → SoundHead tree.geometry.inodes head
-    → stands (with_node tree file.number (node_of head (with_parent file.parent node.body))))
+    → (let inode_attributes : InodeAttributes = record file { nlink = nlink; ctime = moment } in
+    (node : Node) → node_at tree file.number ≡ Some node → IsBodyOf inode_attributes (with_parent file.parent node.body)
+    → SoundInodeAttributes tree.geometry.inodes inode_attributes
+    → stands (with_node tree file.number (node_of inode_attributes (with_parent file.parent node.body))))
     → stands (with_node tree file.number (record (node_of file body) { nlink = nlink; ctime = moment }))
 relinked tree file body nlink moment stands at shaped then =
-    let head : Head = record file { nlink = nlink; ctime = moment } in
+    let inode_attributes : InodeAttributes = record file { nlink = nlink; ctime = moment } in
     let own = own_parent file.parent body at.fits.parent in
-    let is : IsBodyOf head body = record {
+    let is : IsBodyOf inode_attributes body = record {
       kind = at.fits.kind;
       size = at.fits.size;
       used = at.fits.used;
       parent = at.fits.parent;
     } in
-    subst (λ b. stands (with_node tree file.number (node_of head b))) own
-    (then (node_of file body) at.there (subst (IsBodyOf head) (sym own) is)
-    (shaped_head tree.geometry.inodes head body is.kind is.parent shaped))
+    subst (λ b. stands (with_node tree file.number (node_of inode_attributes b))) own
+    (then (node_of file body) at.there (subst (IsBodyOf inode_attributes) (sym own) is)
+    (shaped_inode_attributes tree.geometry.inodes inode_attributes body is.kind is.parent shaped))
 
-pub lost_link : (tree : Tree) (file : Head) (body : Body) (nlink : ℕ) (moment : Moment) (stands : Tree → Type 0)
+pub lost_link : (tree : Tree) (file : InodeAttributes) (body : Body) (nlink : ℕ) (moment : Moment) (stands : Tree → Type 0)
     → nlink ≡ file.nlink - 1 → IsFileIn tree file body
     → IsShaped tree.geometry.inodes (less_linked moment (node_of file body))
-    → (let head : Head = record file { nlink = nlink; ctime = moment } in
-    (node : Node) → node_at tree file.number ≡ Some node → IsBodyOf head (with_parent file.parent node.body)
-    → SoundHead tree.geometry.inodes head
-    → stands (with_node tree file.number (node_of head (with_parent file.parent node.body))))
+    → (let inode_attributes : InodeAttributes = record file { nlink = nlink; ctime = moment } in
+    (node : Node) → node_at tree file.number ≡ Some node → IsBodyOf inode_attributes (with_parent file.parent node.body)
+    → SoundInodeAttributes tree.geometry.inodes inode_attributes
+    → stands (with_node tree file.number (node_of inode_attributes (with_parent file.parent node.body))))
     → stands (with_node tree file.number (less_linked moment (node_of file body)))
 lost_link tree file body nlink moment stands is at shaped then =
     let new : record (node_of file body) { nlink = nlink; ctime = moment }
@@ -220,13 +220,13 @@ lost_link tree file body nlink moment stands is at shaped then =
     (subst (IsShaped tree.geometry.inodes) (sym new) shaped) then)
 
 -- a file that has one link more
-pub gained_link : (tree : Tree) (number : ℕ) (moment : Moment) (stands : Tree → Type 0) (old : Head) (nlink : ℕ)
+pub gained_link : (tree : Tree) (number : ℕ) (moment : Moment) (stands : Tree → Type 0) (old : InodeAttributes) (nlink : ℕ)
     → IsFileAt tree number (Some old) → (old.nlink + 1 < 2 ^ 32 → nlink ≡ old.nlink + 1)
     → CanChange tree number (linked moment)
-    → (let head : Head = record old { nlink = nlink; ctime = moment } in
-    (node : Node) → node_at tree old.number ≡ Some node → IsBodyOf head (with_parent old.parent node.body)
-    → SoundHead tree.geometry.inodes head
-    → stands (with_node tree old.number (node_of head (with_parent old.parent node.body))))
+    → (let inode_attributes : InodeAttributes = record old { nlink = nlink; ctime = moment } in
+    (node : Node) → node_at tree old.number ≡ Some node → IsBodyOf inode_attributes (with_parent old.parent node.body)
+    → SoundInodeAttributes tree.geometry.inodes inode_attributes
+    → stands (with_node tree old.number (node_of inode_attributes (with_parent old.parent node.body))))
     → stands (changed_at tree number (linked moment))
 gained_link tree number moment stands old nlink at nlink_is can then =
     let body = at.1.0 in
@@ -246,7 +246,7 @@ gained_link tree number moment stands old nlink at nlink_is can then =
     (relinked tree old body nlink moment stands at.1.1
     (subst (IsShaped tree.geometry.inodes) (sym new) shaped) then)
 
-pub last_by : (file : Head) (body : Body) → IsBodyOf file body
+pub last_by : (file : InodeAttributes) (body : Body) → IsBodyOf file body
     → is_last_name (node_of file body) ≡ (is_directory (shell file) || nat_le file.nlink 1)
 last_by file body fits = ap (λ b. b || nat_le file.nlink 1) (kinds_agree file body fits.kind)
 
@@ -255,9 +255,9 @@ pub unnamed_gone : (tree : Tree) (moment : Moment) (number : ℕ) (node : Node) 
 unnamed_gone tree moment number node last =
     sym (ap (λ b. cond b (without_node tree number) (with_node tree number (less_linked moment node))) last)
 
-pub unnamed_kept : (tree : Tree) (moment : Moment) (number : ℕ) (node : Node) → is_last_name node ≡ false
+pub unnamed_preserved : (tree : Tree) (moment : Moment) (number : ℕ) (node : Node) → is_last_name node ≡ false
     → with_node tree number (less_linked moment node) ≡ unnamed tree moment number node
-unnamed_kept tree moment number node more =
+unnamed_preserved tree moment number node more =
     sym (ap (λ b. cond b (without_node tree number) (with_node tree number (less_linked moment node))) more)
 
 -- ---- another file changes
@@ -279,7 +279,7 @@ elsewhere tree at number change apart = by (node_at tree at) refl
     by None is = refl
     by (Some node) is = (put_change tree at (Some node) (change node) is).there number apart
 
-pub still_in : (tree : Tree) (at : ℕ) (change : Node → Node) (file : Head) (body : Body) → file.number ≢ at
+pub still_in : (tree : Tree) (at : ℕ) (change : Node → Node) (file : InodeAttributes) (body : Body) → file.number ≢ at
     → IsFileIn tree file body → IsFileIn (changed_at tree at change) file body
 still_in tree at change file body apart is = record {
   there = elsewhere tree at file.number change apart ∙ is.there;

@@ -7,7 +7,7 @@ use Rattle.nfs_spec.specs.Model.Names.{is_directory, parent_of}
 use Rattle.nfs_spec.specs.Model.Node.{Node}
 use Rattle.nfs_spec.specs.Model.Sound.{Sound, SoundTime}
 use Rattle.nfs_spec.specs.Model.Tree.{Tree, node_at, with_node}
-use Rattle.nfs_spec.proofs.ProceduresLemmas.Deeds.{NamedBy, named_is}
+use Rattle.nfs_spec.proofs.ProceduresLemmas.TreeChanges.{NamedBy, named_is}
 use Rattle.nfs_spec.proofs.ProceduresLemmas.Lacking.{Lacking, LackingAt, equal_or_not, none_lacks, of_sound, put_change}
 use Rattle.nfs_spec.proofs.ProceduresLemmas.Naming.{depart, not_in_itself}
 use Rattle.nfs_spec.proofs.ProceduresLemmas.Tests.{neither, not_within, yes_or_no}
@@ -87,8 +87,8 @@ can_take tree good at directory stands name number file found moment now =
     let base = of_sound tree good in
     let named : NamedBy tree directory.body name (number, file) =
     named_is tree directory name (number, file) found in
-    let there : node_at tree named.entry.number ≡ Some file = ap (node_at tree) named.number_is ∙ named.stands in
-    let left = depart tree none_lacks base at directory stands name named.entry named.entry_is file there refl
+    let there : node_at tree named.dirent.number ≡ Some file = ap (node_at tree) named.number_is ∙ named.stands in
+    let left = depart tree none_lacks base at directory stands name named.dirent named.dirent_is file there refl
     moment now in
     let less = departed moment name file.body directory in
     record {
@@ -99,7 +99,7 @@ can_take tree good at directory stands name number file found moment now =
           (shape_of (with_node tree at less) _ left at less
           (put_change tree at (Some directory) less stands).here);
       apart = λ same.
-          not_in_itself tree none_lacks base at directory stands name named.entry named.entry_is file there refl
+          not_in_itself tree none_lacks base at directory stands name named.dirent named.dirent_is file there refl
           (named.number_is ∙ same);
       loses = can_lose tree moment file now (sound_shape tree good number file named.stands);
     }

@@ -11,19 +11,19 @@ abbrev pub span_cost : ℕ → ℕ
 span_cost span = span + cond (nat_lt DIRECT_INDEXES span) 1 0
 
 -- the blocks that a name in this slot adds to a directory of this size
-abbrev pub entry_adds : ℕ → ℕ → ℕ
-entry_adds size slot =
+abbrev pub dirent_adds : ℕ → ℕ → ℕ
+dirent_adds size slot =
     span_cost (max (size / BLOCK_BYTES) (suc (slot / SLOTS_PER_BLOCK))) - span_cost (size / BLOCK_BYTES)
 
 -- The blocks for a name in the least free slot, and so many more, are free.
 pub record IsRoomyIn (tree : Tree) (size : ℕ) (body : Body) (more slot : ℕ) : Type 0 where
   pub least : least_free_slot body ≡ Some slot
-  pub room : nat_le (entry_adds size slot + more) (free tree) ≡ true
+  pub has_space : nat_le (dirent_adds size slot + more) (free tree) ≡ true
 
 -- Either no slot is free, or too few blocks are.
 pub record IsCramped (tree : Tree) (size : ℕ) (body : Body) (more : ℕ) : Type 0 where
   pub full : (slot : ℕ) → least_free_slot body ≡ Some slot
-      → nat_le (entry_adds size slot + more) (free tree) ≡ false
+      → nat_le (dirent_adds size slot + more) (free tree) ≡ false
 
 -- the least free slot of a directory, where the blocks for a name in it and so many more are free
 abbrev pub IsRoomy : Tree → ℕ → Body → ℕ → Option ℕ → Type 0

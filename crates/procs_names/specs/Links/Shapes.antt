@@ -6,16 +6,16 @@ use Rattle.nfs_types.specs.declared.ctx.Credential.{Credential}
 use Rattle.nfs_types.specs.declared.ctx.Moment.{Moment}
 use Rattle.nfs_types.specs.declared.status.Status.{Status}
 use Rattle.nfs_spec.specs.Model.Names.{is_directory, parent_of}
-use Rattle.nfs_spec.specs.Model.Node.{Body, DirectoryEntry, Node}
+use Rattle.nfs_spec.specs.Model.Node.{Body, DirentValue, Node}
 use Rattle.nfs_spec.specs.Model.SetAttr.{first_of_tests}
 use Rattle.nfs_spec.specs.Model.Sound.{SoundStamp, SoundTime, SoundVerifier}
 use Rattle.nfs_spec.specs.Model.Tree.{Tree, free, node_at}
-use Rattle.nfs_spec.specs.Procedures.Changes.{departed, entered, is_last_name, with_entry}
-use Rattle.nfs_spec.specs.Procedures.FirstTests.{may_change, place_tests}
+use Rattle.nfs_spec.specs.Procedures.Changes.{departed, entered, is_last_name, with_dirent}
+use Rattle.nfs_spec.specs.Procedures.FirstTests.{may_change, dentry_tests}
 use Rattle.nfs_spec.specs.Procedures.Places.{named_file}
-use Rattle.procs_files.specs.Changing.{CanEnter, adds}
+use Rattle.procs_files.specs.Writable.{CanEnter, adds}
 use Rattle.procs_files.specs.Heads.{IsFound}
-use Rattle.procs_files.specs.declared.head.Head.{Head}
+use Rattle.procs_files.specs.declared.inode_attributes.InodeAttributes.{InodeAttributes}
 
 -- The attributes of a file are such as a file may have, where so many inodes are.
 pub record IsShaped (inodes : ℕ) (node : Node) : Type 0 where
@@ -54,17 +54,17 @@ pub record CanTake (tree : Tree) (moment : Moment) (at : ℕ) (name : List ℕ) 
   pub loses : CanLose tree moment file
 
 -- what a name leads to in a directory, where this caller may change names there
-abbrev pub IsSought : Tree → Credential → Node → List ℕ → Result (Option Head) Status → Type 0
-IsSought tree caller directory name (Err status) =
-    first_of_tests (place_tests (may_change caller directory) directory name) ≡ Some status
-IsSought tree caller directory name (Ok found) =
-    (first_of_tests (place_tests (may_change caller directory) directory name) ≡ None)
+abbrev pub IsLookupForChange : Tree → Credential → Node → List ℕ → Result (Option InodeAttributes) Status → Type 0
+IsLookupForChange tree caller directory name (Err status) =
+    first_of_tests (dentry_tests (may_change caller directory) directory name) ≡ Some status
+IsLookupForChange tree caller directory name (Ok found) =
+    (first_of_tests (dentry_tests (may_change caller directory) directory name) ≡ None)
     × IsFound tree (named_file tree directory name) found
 
 -- A directory, if there is one of the number, can get this name for a file.
-pub record CanEnterAt (tree : Tree) (moment : Moment) (at : ℕ) (name : List ℕ) (entry : DirectoryEntry)
+pub record CanEnterAt (tree : Tree) (moment : Moment) (at : ℕ) (name : List ℕ) (dirent : DirentValue)
     (file : Body) : Type 0 where
-  pub shaped : CanChange tree at (entered moment name entry file)
-  pub enters : (node : Node) → node_at tree at ≡ Some node → CanEnter tree node.body name entry
-  pub room : (node : Node) → node_at tree at ≡ Some node
-      → adds (with_entry name entry node.body) node.body ≤ free tree
+  pub shaped : CanChange tree at (entered moment name dirent file)
+  pub enters : (node : Node) → node_at tree at ≡ Some node → CanEnter tree node.body name dirent
+  pub has_space : (node : Node) → node_at tree at ≡ Some node
+      → adds (with_dirent name dirent node.body) node.body ≤ free tree

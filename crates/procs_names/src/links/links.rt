@@ -6,21 +6,21 @@ ghost use Rattle.nfs_spec.specs.Procedures.Changes.{parent_links};
 ghost use Rattle.procs_files.specs.Heads.{IsBodyOf, shell};
 
 use nfs_types::FileKind;
-use procs_files::Head;
+use procs_files::InodeAttributes;
 
 /// Whether a file is a directory.
-pub fn is_directory(head: &Head) -> bool
-    ensures { result ≡ is_directory (shell head.now) }
+pub fn is_directory(inode_attributes: &InodeAttributes) -> bool
+    ensures { result ≡ is_directory (shell inode_attributes.now) }
 {
-    matches!(head.kind, FileKind::Directory)
+    matches!(inode_attributes.kind, FileKind::Directory)
 }
 
 /// How many links of its directory a file is.
-pub fn parent_links(head: &Head) -> u32
-    ensures is { result ≡ parent_links (shell head.now) }
+pub fn parent_links(inode_attributes: &InodeAttributes) -> u32
+    ensures is { result ≡ parent_links (shell inode_attributes.now) }
     ensures small { result ≤ 1 }
 {
-    if is_directory(head) { 1 } else { 0 }
+    if is_directory(inode_attributes) { 1 } else { 0 }
 }
 
 /// So many links more.

@@ -1,8 +1,8 @@
 -- What READDIRPLUS tells of an entry, by the file that it names.
 use Rattle.std.specs.Prelude.{cond, not, map, Option, Result, Ok, Err}
 use Rattle.std.specs.Option.{option_map}
-use Rattle.nfs_types.specs.declared.entries.ListedEntry.{ListedEntry}
-use Rattle.nfs_types.specs.declared.entries.ListedEntryPlus.{ListedEntryPlus}
+use Rattle.nfs_types.specs.declared.entries.ListedItem.{ListedItem}
+use Rattle.nfs_types.specs.declared.entries.ListedItemPlus.{ListedItemPlus}
 use Rattle.nfs_types.specs.declared.reply.ListedPlus.{ListedPlus}
 use Rattle.nfs_types.specs.declared.status.Status.{Status}
 use Rattle.nfs_types.specs.declared.status.Status.TheVariants as status
@@ -11,18 +11,18 @@ use Rattle.nfs_spec.specs.Model.Node.{Node}
 use Rattle.nfs_spec.specs.Model.Tree.{Tree}
 use Rattle.nfs_spec.specs.Procedures.Listing.{listing_verifier}
 use Rattle.nfs_spec.specs.Procedures.ReadDirPlus.{plus}
-use Rattle.nfs_spec.specs.Procedures.Told.{handle_of}
+use Rattle.nfs_spec.specs.Procedures.StepForms.{handle_of}
 use Rattle.procs_queries.specs.Listings.Gathered.{Gathered}
 use Rattle.procs_queries.specs.Listings.Tests.{has_no_first}
 
 -- an entry with what is told of its file, if it names one
-abbrev pub told_of : ListedEntry → Option Node → ListedEntryPlus
-told_of entry node = record {
-  number = entry.number;
-  name = entry.name;
-  cookie = entry.cookie;
-  attributes = option_map (attributes_of entry.number) node;
-  handle = option_map (handle_of entry.number) node;
+abbrev pub listed_with_attributes : ListedItem → Option Node → ListedItemPlus
+listed_with_attributes listed_item node = record {
+  number = listed_item.number;
+  name = listed_item.name;
+  cookie = listed_item.cookie;
+  attributes = option_map (attributes_of listed_item.number) node;
+  handle = option_map (handle_of listed_item.number) node;
 }
 
 -- what is listed, where there was room for the first entry

@@ -4,83 +4,91 @@ ghost use Rattle.nfs_spec.specs.Model.Node.{Body};
 ghost use Rattle.nfs_spec.specs.Model.Tree.{Tree};
 ghost use Rattle.nfs_spec.specs.Procedures.ReadDirPlus.{ReadDirPlusStep, list_plus, plus};
 ghost use Rattle.procs_files.specs.Heads.{IsBodyOf, IsFileIn, node_of};
-ghost use Rattle.procs_queries.specs.Listings.Plus.{listed_plus_of, told_of};
+ghost use Rattle.procs_queries.specs.Listings.Plus.{listed_plus_of, listed_with_attributes};
 
-use crate::listings::gathering::Gathering;
-use crate::listings::names::gathered;
-use crate::listings::refusals::{early_refusal, entry_room, listing_verifier};
-use base::ENTRY_PLUS_BYTES;
+use crate::listings::gathered::Gathering;
+use crate::listings::listed_names::gathered;
+use crate::listings::refusals::{early_refusal, listing_budget, listing_verifier};
+use base::LISTED_ITEM_PLUS_BYTES;
 use nfs_types::{
-    Credential, Ctx, Handle, ListedEntriesPlus, ListedEntry, ListedEntryPlus, ListedPlus, Status,
+    Credential, Ctx, Handle, ListedEntriesPlus, ListedItem, ListedItemPlus, ListedPlus, Status,
     Verifier,
 };
-use procs_files::{Files, Head, Told, find};
+use procs_files::{Files, InodeAttributes, QueryReply, find};
 use std::alloc::{AllocError, Global};
 
 // An entry with what is told of the file that it names.
-fn with_head(alloc: Global, entry: &ListedEntry, head: &Head) -> Result<ListedEntryPlus, AllocError>
-    ensures { IfOk result (λ r. (body : Body) → IsBodyOf head.now body → head.now.number ≡ entry.now.number
-        → r ≡ told_of entry.now (Some (node_of head.now body))) }
+fn with_inode_attributes(
+    alloc: Global,
+    listed_item: &ListedItem,
+    inode_attributes: &InodeAttributes,
+) -> Result<ListedItemPlus, AllocError>
+    ensures { IfOk result (λ r. (body : Body) → IsBodyOf inode_attributes.now body → inode_attributes.now.number ≡ listed_item.now.number
+        → r ≡ listed_with_attributes listed_item.now (Some (node_of inode_attributes.now body))) }
 {
-    Ok(ListedEntryPlus {
-        number: entry.number,
-        name: entry.name.clone()?,
-        cookie: entry.cookie,
-        attributes: Some(head.attributes()),
-        handle: Some(Handle::of(alloc, head.number, head.stamp)?),
+    Ok(ListedItemPlus {
+        number: listed_item.number,
+        name: listed_item.name.clone()?,
+        cookie: listed_item.cookie,
+        attributes: Some(inode_attributes.attributes()),
+        handle: Some(Handle::of(alloc, inode_attributes.number, inode_attributes.stamp)?),
     })
 }
 
 // An entry that names no file.
-fn alone(entry: &ListedEntry) -> Result<ListedEntryPlus, AllocError>
-    ensures { IfOk result (λ r. r ≡ told_of entry.now None) }
+fn name_only(listed_item: &ListedItem) -> Result<ListedItemPlus, AllocError>
+    ensures { IfOk result (λ r. r ≡ listed_with_attributes listed_item.now None) }
 {
-    Ok(ListedEntryPlus {
-        number: entry.number,
-        name: entry.name.clone()?,
-        cookie: entry.cookie,
+    Ok(ListedItemPlus {
+        number: listed_item.number,
+        name: listed_item.name.clone()?,
+        cookie: listed_item.cookie,
         attributes: None,
         handle: None,
     })
 }
 
-fn plus<F: Files>(alloc: Global, files: &F, entry: &ListedEntry) -> Result<ListedEntryPlus, F::Stop>
-    requires { entry.now.number < 2 ^ 32 }
-    ensures err { IfErr result (λ stop. F.may_stop (F.source files.now) stop) }
-    ensures pause { IfErr result (λ stop. (world : F.World) (tree : Tree) → F.stands files.now world tree
-        → F.is_pause stop) }
+fn plus<F: Files>(
+    alloc: Global,
+    files: &F,
+    listed_item: &ListedItem,
+) -> Result<ListedItemPlus, F::Suspend>
+    requires { listed_item.now.number < 2 ^ 32 }
+    ensures err { IfErr result (λ suspend. F.may_suspend (F.source files.now) suspend) }
+    ensures resumable { IfErr result (λ suspend. (world : F.World) (tree : Tree) → F.stands files.now world tree
+        → F.is_resumable suspend) }
     ensures ok { IfOk result (λ r. (world : F.World) (tree : Tree) → F.stands files.now world tree
-        → r ≡ plus tree entry.now) }
+        → r ≡ plus tree listed_item.now) }
 {
-    match files.file(entry.number as u32)? {
-        Some(head) => Ok(with_head(alloc, entry, &head)?),
-        None => Ok(alone(entry)?),
+    match files.file(listed_item.number as u32)? {
+        Some(inode_attributes) => Ok(with_inode_attributes(alloc, listed_item, &inode_attributes)?),
+        None => Ok(name_only(listed_item)?),
     }
 }
 
-fn push(all: &mut Vec<ListedEntryPlus>, entry: ListedEntryPlus) -> Result<(), AllocError>
-    ensures { OnOk result (all.new.items ≡ all.old.items ++ entry ∷ []) }
+fn push(all: &mut Vec<ListedItemPlus>, listed_item: ListedItemPlus) -> Result<(), AllocError>
+    ensures { OnOk result (all.new.items ≡ all.old.items ++ listed_item ∷ []) }
 {
-    all.push(entry)?;
+    all.push(listed_item)?;
     Ok(())
 }
 
 fn with_files<F: Files>(
     alloc: Global,
     files: &F,
-    entries: &[ListedEntry],
-) -> Result<Vec<ListedEntryPlus>, F::Stop>
-    requires { All (λ entry. entry.number < 2 ^ 32) entries.now }
-    ensures err { IfErr result (λ stop. F.may_stop (F.source files.now) stop) }
-    ensures pause { IfErr result (λ stop. (world : F.World) (tree : Tree) → F.stands files.now world tree
-        → F.is_pause stop) }
+    entries: &[ListedItem],
+) -> Result<Vec<ListedItemPlus>, F::Suspend>
+    requires { All (λ listed_item. listed_item.number < 2 ^ 32) entries.now }
+    ensures err { IfErr result (λ suspend. F.may_suspend (F.source files.now) suspend) }
+    ensures resumable { IfErr result (λ suspend. (world : F.World) (tree : Tree) → F.stands files.now world tree
+        → F.is_resumable suspend) }
     ensures ok { IfOk result (λ all. (world : F.World) (tree : Tree) → F.stands files.now world tree
         → all.items ≡ map (plus tree) entries.now) }
 {
     let mut all = Vec::new(alloc);
-    'entries: for entry in entries {
-        let told = plus(alloc, files, entry)?;
-        push(&mut all, told)?;
+    'entries: for listed_item in entries {
+        let query_reply = plus(alloc, files, listed_item)?;
+        push(&mut all, query_reply)?;
     }
     Ok(all)
 }
@@ -89,10 +97,10 @@ fn listed_plus<F: Files>(
     alloc: Global,
     files: &F,
     gathering: &Gathering,
-) -> Result<Result<ListedPlus, Status>, F::Stop>
-    ensures err { IfErr result (λ stop. F.may_stop (F.source files.now) stop) }
-    ensures pause { IfErr result (λ stop. (world : F.World) (tree : Tree) → F.stands files.now world tree
-        → F.is_pause stop) }
+) -> Result<Result<ListedPlus, Status>, F::Suspend>
+    ensures err { IfErr result (λ suspend. F.may_suspend (F.source files.now) suspend) }
+    ensures resumable { IfErr result (λ suspend. (world : F.World) (tree : Tree) → F.stands files.now world tree
+        → F.is_resumable suspend) }
     ensures ok { IfOk result (λ r. (world : F.World) (tree : Tree) → F.stands files.now world tree
         → r ≡ listed_plus_of tree gathering.now) }
 {
@@ -115,11 +123,11 @@ fn list_plus<F: Files>(
     verifier: &Verifier,
     names_count: u32,
     count: u32,
-    directory: &Head,
-) -> Result<Result<ListedPlus, Status>, F::Stop>
-    ensures err { IfErr result (λ stop. F.may_stop (F.source files.now) stop) }
-    ensures pause { IfErr result (λ stop. (world : F.World) (tree : Tree) → F.stands files.now world tree
-        → F.is_pause stop) }
+    directory: &InodeAttributes,
+) -> Result<Result<ListedPlus, Status>, F::Suspend>
+    ensures err { IfErr result (λ suspend. F.may_suspend (F.source files.now) suspend) }
+    ensures resumable { IfErr result (λ suspend. (world : F.World) (tree : Tree) → F.stands files.now world tree
+        → F.is_resumable suspend) }
     ensures ok { IfOk result (λ r. (world : F.World) (tree : Tree) (body : Body) → F.stands files.now world tree
         → IsFileIn tree directory.now body → r ≡ list_plus tree caller.now cookie verifier.now names_count count
         directory.now.number (node_of directory.now body)) }
@@ -127,14 +135,14 @@ fn list_plus<F: Files>(
     if let Some(status) = early_refusal(caller, cookie, verifier, count, directory) {
         return Ok(Err(status));
     }
-    let room = entry_room(count);
+    let budget = listing_budget(count);
     let gathering = gathered(
         alloc,
         files,
         directory,
-        ENTRY_PLUS_BYTES,
+        LISTED_ITEM_PLUS_BYTES,
         names_count,
-        room,
+        budget,
         cookie,
     )?;
     listed_plus(alloc, files, &gathering)
@@ -150,20 +158,20 @@ pub fn read_directory_plus<F: Files>(
     verifier: &Verifier,
     names_count: u32,
     count: u32,
-) -> Result<Told<ListedPlus>, F::Stop>
-    ensures err { IfErr result (λ stop. F.may_stop (F.source files.now) stop) }
-    ensures pause { IfErr result (λ stop. (world : F.World) (tree : Tree) → F.stands files.now world tree
-        → F.is_pause stop) }
-    ensures ok { IfOk result (λ told. (world : F.World) (tree : Tree) → F.stands files.now world tree
-        → ReadDirPlusStep tree ctx.now directory.now.bytes cookie verifier.now names_count count told.outcome
-        told.object tree) }
+) -> Result<QueryReply<ListedPlus>, F::Suspend>
+    ensures err { IfErr result (λ suspend. F.may_suspend (F.source files.now) suspend) }
+    ensures resumable { IfErr result (λ suspend. (world : F.World) (tree : Tree) → F.stands files.now world tree
+        → F.is_resumable suspend) }
+    ensures ok { IfOk result (λ query_reply. (world : F.World) (tree : Tree) → F.stands files.now world tree
+        → ReadDirPlusStep tree ctx.now directory.now.bytes cookie verifier.now names_count count query_reply.outcome
+        query_reply.object tree) }
 {
     match find(files, directory)? {
-        Err(status) => Ok(Told {
+        Err(status) => Ok(QueryReply {
             outcome: Err(status),
             object: None,
         }),
-        Ok(head) => Ok(Told {
+        Ok(inode_attributes) => Ok(QueryReply {
             outcome: list_plus(
                 alloc,
                 files,
@@ -172,9 +180,9 @@ pub fn read_directory_plus<F: Files>(
                 verifier,
                 names_count,
                 count,
-                &head,
+                &inode_attributes,
             )?,
-            object: Some(head.attributes()),
+            object: Some(inode_attributes.attributes()),
         }),
     }
 }

@@ -1,13 +1,13 @@
 //! Why nothing is listed, before an entry is looked at.
 ghost use Rattle.std.specs.Prelude.{◌≡◌};
 ghost use Rattle.nfs_spec.specs.Model.SetAttr.{first_of_tests};
-ghost use Rattle.nfs_spec.specs.Procedures.Listing.{asked_bytes, entry_room, is_bad_cookie, listing_verifier};
+ghost use Rattle.nfs_spec.specs.Procedures.Listing.{asked_bytes, listing_budget, is_bad_cookie, listing_verifier};
 ghost use Rattle.procs_files.specs.Heads.{bare};
 ghost use Rattle.procs_queries.specs.Listings.Tests.{early_tests};
 
 use base::{LISTING_BYTES, LISTING_FRAME};
 use nfs_types::{Credential, FileKind, Status, VERIFIER_BYTES, Verifier};
-use procs_files::{Head, may_list};
+use procs_files::{InodeAttributes, may_list};
 
 // The bytes that a call asks for, as far as one call may.
 fn asked_bytes(count: u32) -> u32
@@ -17,8 +17,8 @@ fn asked_bytes(count: u32) -> u32
 }
 
 /// What of so many bytes is left for entries.
-pub(crate) fn entry_room(count: u32) -> u32
-    ensures { result ≡ entry_room count }
+pub(crate) fn listing_budget(count: u32) -> u32
+    ensures { result ≡ listing_budget count }
 {
     asked_bytes(count).saturating_sub(LISTING_FRAME)
 }
@@ -44,7 +44,7 @@ pub(crate) fn early_refusal(
     cookie: u64,
     verifier: &Verifier,
     count: u32,
-    directory: &Head,
+    directory: &InodeAttributes,
 ) -> Option<Status>
     ensures { result ≡ first_of_tests (early_tests caller.now cookie verifier.now count (bare directory.now)) }
 {

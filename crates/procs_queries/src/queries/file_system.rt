@@ -10,7 +10,7 @@ use base::{
 };
 use nfs_spec::{HAS_LINKS, HAS_SYMBOLIC_LINKS, IS_HOMOGENEOUS, SETS_TIMES};
 use nfs_types::{FileSystemInfo, Handle, Moment, PathLimits};
-use procs_files::{Files, Told, find};
+use procs_files::{Files, QueryReply, find};
 
 fn info() -> FileSystemInfo
     ensures { result ≡ file_system_info }
@@ -49,41 +49,44 @@ fn limits_of_names() -> PathLimits
 pub fn file_system_info<F: Files>(
     files: &F,
     object: &Handle,
-) -> Result<Told<FileSystemInfo>, F::Stop>
-    ensures err { IfErr result (λ stop. F.may_stop (F.source files.now) stop) }
-    ensures pause { IfErr result (λ stop. (world : F.World) (tree : Tree) → F.stands files.now world tree
-        → F.is_pause stop) }
-    ensures ok { IfOk result (λ told. (world : F.World) (tree : Tree) → F.stands files.now world tree → FsInfoStep
-        tree object.now.bytes told.outcome told.object tree) }
+) -> Result<QueryReply<FileSystemInfo>, F::Suspend>
+    ensures err { IfErr result (λ suspend. F.may_suspend (F.source files.now) suspend) }
+    ensures resumable { IfErr result (λ suspend. (world : F.World) (tree : Tree) → F.stands files.now world tree
+        → F.is_resumable suspend) }
+    ensures ok { IfOk result (λ query_reply. (world : F.World) (tree : Tree) → F.stands files.now world tree → FsInfoStep
+        tree object.now.bytes query_reply.outcome query_reply.object tree) }
 {
     match find(files, object)? {
-        Err(status) => Ok(Told {
+        Err(status) => Ok(QueryReply {
             outcome: Err(status),
             object: None,
         }),
-        Ok(head) => Ok(Told {
+        Ok(inode_attributes) => Ok(QueryReply {
             outcome: Ok(info()),
-            object: Some(head.attributes()),
+            object: Some(inode_attributes.attributes()),
         }),
     }
 }
 
 /// What the server tells of names and links.
-pub fn path_limits<F: Files>(files: &F, object: &Handle) -> Result<Told<PathLimits>, F::Stop>
-    ensures err { IfErr result (λ stop. F.may_stop (F.source files.now) stop) }
-    ensures pause { IfErr result (λ stop. (world : F.World) (tree : Tree) → F.stands files.now world tree
-        → F.is_pause stop) }
-    ensures ok { IfOk result (λ told. (world : F.World) (tree : Tree) → F.stands files.now world tree
-        → PathConfStep tree object.now.bytes told.outcome told.object tree) }
+pub fn path_limits<F: Files>(
+    files: &F,
+    object: &Handle,
+) -> Result<QueryReply<PathLimits>, F::Suspend>
+    ensures err { IfErr result (λ suspend. F.may_suspend (F.source files.now) suspend) }
+    ensures resumable { IfErr result (λ suspend. (world : F.World) (tree : Tree) → F.stands files.now world tree
+        → F.is_resumable suspend) }
+    ensures ok { IfOk result (λ query_reply. (world : F.World) (tree : Tree) → F.stands files.now world tree
+        → PathConfStep tree object.now.bytes query_reply.outcome query_reply.object tree) }
 {
     match find(files, object)? {
-        Err(status) => Ok(Told {
+        Err(status) => Ok(QueryReply {
             outcome: Err(status),
             object: None,
         }),
-        Ok(head) => Ok(Told {
+        Ok(inode_attributes) => Ok(QueryReply {
             outcome: Ok(limits_of_names()),
-            object: Some(head.attributes()),
+            object: Some(inode_attributes.attributes()),
         }),
     }
 }

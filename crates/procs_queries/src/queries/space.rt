@@ -5,13 +5,13 @@ ghost use Rattle.nfs_spec.specs.Procedures.FsStat.{FsStatStep, space_of};
 
 use base::BLOCK_BYTES;
 use nfs_types::{FileSystemSpace, Handle};
-use procs_files::{Files, Told, find};
+use procs_files::{Files, QueryReply, find};
 
 // All that FSSTAT tells of blocks and numbers.
-fn space_of<F: Files>(files: &F) -> Result<FileSystemSpace, F::Stop>
-    ensures err { IfErr result (λ stop. F.may_stop (F.source files.now) stop) }
-    ensures pause { IfErr result (λ stop. (world : F.World) (tree : Tree) → F.stands files.now world tree
-        → F.is_pause stop) }
+fn space_of<F: Files>(files: &F) -> Result<FileSystemSpace, F::Suspend>
+    ensures err { IfErr result (λ suspend. F.may_suspend (F.source files.now) suspend) }
+    ensures resumable { IfErr result (λ suspend. (world : F.World) (tree : Tree) → F.stands files.now world tree
+        → F.is_resumable suspend) }
     ensures ok { IfOk result (λ space. (world : F.World) (tree : Tree) → F.stands files.now world tree
         → space ≡ space_of tree) }
 {
@@ -32,21 +32,21 @@ fn space_of<F: Files>(files: &F) -> Result<FileSystemSpace, F::Stop>
 pub fn file_system_space<F: Files>(
     files: &F,
     object: &Handle,
-) -> Result<Told<FileSystemSpace>, F::Stop>
-    ensures err { IfErr result (λ stop. F.may_stop (F.source files.now) stop) }
-    ensures pause { IfErr result (λ stop. (world : F.World) (tree : Tree) → F.stands files.now world tree
-        → F.is_pause stop) }
-    ensures ok { IfOk result (λ told. (world : F.World) (tree : Tree) → F.stands files.now world tree → FsStatStep
-        tree object.now.bytes told.outcome told.object tree) }
+) -> Result<QueryReply<FileSystemSpace>, F::Suspend>
+    ensures err { IfErr result (λ suspend. F.may_suspend (F.source files.now) suspend) }
+    ensures resumable { IfErr result (λ suspend. (world : F.World) (tree : Tree) → F.stands files.now world tree
+        → F.is_resumable suspend) }
+    ensures ok { IfOk result (λ query_reply. (world : F.World) (tree : Tree) → F.stands files.now world tree → FsStatStep
+        tree object.now.bytes query_reply.outcome query_reply.object tree) }
 {
     match find(files, object)? {
-        Err(status) => Ok(Told {
+        Err(status) => Ok(QueryReply {
             outcome: Err(status),
             object: None,
         }),
-        Ok(head) => Ok(Told {
+        Ok(inode_attributes) => Ok(QueryReply {
             outcome: Ok(space_of(files)?),
-            object: Some(head.attributes()),
+            object: Some(inode_attributes.attributes()),
         }),
     }
 }

@@ -6,43 +6,47 @@ ghost use Rattle.nfs_spec.specs.Procedures.ReadLink.{ReadLinkStep, target_of};
 ghost use Rattle.procs_files.specs.Heads.{IsFileIn};
 
 use nfs_types::{FileKind, Handle, Octets, Status};
-use procs_files::{Files, Head, Told, find};
+use procs_files::{Files, InodeAttributes, QueryReply, find};
 use std::alloc::Global;
 
 fn target_of<F: Files>(
     alloc: Global,
     files: &F,
-    head: &Head,
-) -> Result<Result<Octets, Status>, F::Stop>
-    ensures err { IfErr result (λ stop. F.may_stop (F.source files.now) stop) }
-    ensures pause { IfErr result (λ stop. (world : F.World) (tree : Tree) → F.stands files.now world tree
-        → F.is_pause stop) }
+    inode_attributes: &InodeAttributes,
+) -> Result<Result<Octets, Status>, F::Suspend>
+    ensures err { IfErr result (λ suspend. F.may_suspend (F.source files.now) suspend) }
+    ensures resumable { IfErr result (λ suspend. (world : F.World) (tree : Tree) → F.stands files.now world tree
+        → F.is_resumable suspend) }
     ensures ok { IfOk result (λ r. (world : F.World) (tree : Tree) (body : Body) → F.stands files.now world tree
-        → IsFileIn tree head.now body → r ≡ target_of body) }
+        → IsFileIn tree inode_attributes.now body → r ≡ target_of body) }
 {
-    if matches!(head.kind, FileKind::Link) {
-        Ok(Ok(files.target(alloc, head)?))
+    if matches!(inode_attributes.kind, FileKind::Link) {
+        Ok(Ok(files.target(alloc, inode_attributes)?))
     } else {
         Ok(Err(Status::Inval))
     }
 }
 
 /// The target of a link.
-pub fn read_link<F: Files>(alloc: Global, files: &F, link: &Handle) -> Result<Told<Octets>, F::Stop>
-    ensures err { IfErr result (λ stop. F.may_stop (F.source files.now) stop) }
-    ensures pause { IfErr result (λ stop. (world : F.World) (tree : Tree) → F.stands files.now world tree
-        → F.is_pause stop) }
-    ensures ok { IfOk result (λ told. (world : F.World) (tree : Tree) → F.stands files.now world tree
-        → ReadLinkStep tree link.now.bytes told.outcome told.object tree) }
+pub fn read_link<F: Files>(
+    alloc: Global,
+    files: &F,
+    link: &Handle,
+) -> Result<QueryReply<Octets>, F::Suspend>
+    ensures err { IfErr result (λ suspend. F.may_suspend (F.source files.now) suspend) }
+    ensures resumable { IfErr result (λ suspend. (world : F.World) (tree : Tree) → F.stands files.now world tree
+        → F.is_resumable suspend) }
+    ensures ok { IfOk result (λ query_reply. (world : F.World) (tree : Tree) → F.stands files.now world tree
+        → ReadLinkStep tree link.now.bytes query_reply.outcome query_reply.object tree) }
 {
     match find(files, link)? {
-        Err(status) => Ok(Told {
+        Err(status) => Ok(QueryReply {
             outcome: Err(status),
             object: None,
         }),
-        Ok(head) => Ok(Told {
-            outcome: target_of(alloc, files, &head)?,
-            object: Some(head.attributes()),
+        Ok(inode_attributes) => Ok(QueryReply {
+            outcome: target_of(alloc, files, &inode_attributes)?,
+            object: Some(inode_attributes.attributes()),
         }),
     }
 }

@@ -9,17 +9,17 @@ use Rattle.nfs_types.specs.declared.verifier.Verifier.{Verifier}
 use Rattle.nfs_spec.specs.Model.Node.{Node}
 use Rattle.nfs_spec.specs.Model.Sound.{SoundVerifier}
 use Rattle.nfs_spec.specs.Model.Tree.{Tree}
-use Rattle.nfs_spec.proofs.ProceduresLemmas.Deeds.{Placed}
+use Rattle.nfs_spec.proofs.ProceduresLemmas.TreeChanges.{Placed}
 use Rattle.nfs_spec.specs.Procedures.Create.{no_bytes}
 use Rattle.nfs_spec.specs.Procedures.Fresh.{nothing_given}
 use Rattle.nfs_spec.specs.Procedures.Places.{named_file}
 use Rattle.nfs_types.specs.Fits.{AreBytes}
 use Rattle.procs_updates.proofs.CreatesLemmas.Added.{no_blocks}
 use Rattle.procs_updates.proofs.CreatesLemmas.Refused.{no_bytes_sound}
-use Rattle.procs_updates.specs.Creates.Making.{CanMake, IsFresh, IsNewName, blank_head}
+use Rattle.procs_updates.specs.Creates.Making.{CanMake, IsFresh, IsNewName, blank_inode_attributes}
 
 pub blank_is_fresh : (ctx : Ctx) (target : List ℕ) (mode : ℕ) (verifier : Option Verifier)
-    → IsFresh ctx (blank_head ctx kinds.Regular mode verifier 1) target mode verifier no_bytes
+    → IsFresh ctx (blank_inode_attributes ctx kinds.Regular mode verifier 1) target mode verifier no_bytes
 blank_is_fresh ctx target mode verifier = record {
   is = refl;
   fits = record {

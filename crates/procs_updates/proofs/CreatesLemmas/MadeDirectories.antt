@@ -8,9 +8,9 @@ use Rattle.nfs_spec.proofs.ModelLemmas.Maps.{entries-empty}
 use Rattle.nfs_spec.specs.Model.Node.{Node, Directory}
 use Rattle.nfs_spec.specs.Model.SetAttr.{first_of_tests}
 use Rattle.nfs_spec.specs.Model.Tree.{Tree}
-use Rattle.nfs_spec.proofs.ProceduresLemmas.Deeds.{passed}
+use Rattle.nfs_spec.proofs.ProceduresLemmas.TreeChanges.{passed}
 use Rattle.nfs_spec.proofs.ProceduresLemmas.Tests.{neither}
-use Rattle.nfs_spec.specs.Procedures.FirstTests.{place_tests}
+use Rattle.nfs_spec.specs.Procedures.FirstTests.{dentry_tests}
 use Rattle.nfs_spec.specs.Procedures.Fresh.{without_size}
 use Rattle.nfs_spec.specs.Procedures.MkDir.{is_full}
 use Rattle.nfs_spec.specs.Procedures.Places.{is_own_name, named_file}
@@ -19,7 +19,7 @@ use Rattle.procs_updates.specs.Creates.Making.{CanMake}
 use Rattle.nfs_spec.specs.Procedures.MkDir.{mkdir_tests}
 
 pub can_make_directory : (tree : Tree) (at : ℕ) (directory : Node) (name : List ℕ) (wanted : NewAttributes)
-    (allowed : Bool) → first_of_tests (place_tests allowed directory name) ≡ None
+    (allowed : Bool) → first_of_tests (dentry_tests allowed directory name) ≡ None
     → first_of_tests (mkdir_tests name directory (named_file tree directory name)) ≡ None
     → AreBytes name → NewAttributesFit wanted
     → CanMake tree at directory name (without_size wanted) NEW_DIRECTORY_MODE None (Directory map.empty 0 at)

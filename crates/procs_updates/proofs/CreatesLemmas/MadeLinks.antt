@@ -6,9 +6,9 @@ use Rattle.nfs_types.specs.declared.attributes.NewAttributes.{NewAttributes}
 use Rattle.nfs_spec.specs.Model.Node.{Node, Link}
 use Rattle.nfs_spec.specs.Model.SetAttr.{first_of_tests}
 use Rattle.nfs_spec.specs.Model.Tree.{Tree}
-use Rattle.nfs_spec.proofs.ProceduresLemmas.Deeds.{passed}
+use Rattle.nfs_spec.proofs.ProceduresLemmas.TreeChanges.{passed}
 use Rattle.nfs_spec.proofs.ProceduresLemmas.Tests.{neither}
-use Rattle.nfs_spec.specs.Procedures.FirstTests.{place_tests}
+use Rattle.nfs_spec.specs.Procedures.FirstTests.{dentry_tests}
 use Rattle.nfs_spec.specs.Procedures.Fresh.{without_size}
 use Rattle.nfs_spec.specs.Procedures.Places.{is_own_name, named_file}
 use Rattle.procs_updates.proofs.CreatesLemmas.Refused.{is_placed, none_there, target_sound, unsized}
@@ -16,7 +16,7 @@ use Rattle.procs_updates.specs.Creates.Making.{CanMake}
 use Rattle.nfs_spec.specs.Procedures.SymLink.{symlink_tests}
 
 pub can_make_link : (tree : Tree) (at : ℕ) (directory : Node) (name : List ℕ) (wanted : NewAttributes)
-    (target : List ℕ) (allowed : Bool) → first_of_tests (place_tests allowed directory name) ≡ None
+    (target : List ℕ) (allowed : Bool) → first_of_tests (dentry_tests allowed directory name) ≡ None
     → first_of_tests (symlink_tests name target (named_file tree directory name)) ≡ None
     → AreBytes name → NewAttributesFit wanted → AreBytes target
     → CanMake tree at directory name (without_size wanted) NEW_LINK_MODE None (Link target)

@@ -12,17 +12,17 @@ use Rattle.nfs_types.specs.declared.attributes.NewAttributes.{NewAttributes}
 use Rattle.nfs_types.specs.declared.reply.Created.{Created}
 use Rattle.nfs_types.specs.declared.status.Status.{Status}
 use Rattle.nfs_spec.specs.Model.Names.{is_directory}
-use Rattle.nfs_spec.specs.Model.Node.{Node, DirectoryEntry}
+use Rattle.nfs_spec.specs.Model.Node.{Node, DirentValue}
 use Rattle.nfs_spec.specs.Model.SetAttr.{first_of_tests}
 use Rattle.nfs_spec.specs.Model.Sound.{SoundBytes, SoundEntries, SoundTarget}
 use Rattle.nfs_spec.specs.Model.Tree.{Tree}
-use Rattle.nfs_spec.proofs.ProceduresLemmas.Deeds.{Placed, passed}
+use Rattle.nfs_spec.proofs.ProceduresLemmas.TreeChanges.{Placed, passed}
 use Rattle.nfs_spec.proofs.ProceduresLemmas.Numbers.{new_number}
 use Rattle.nfs_spec.proofs.ProceduresLemmas.Tests.{passes}
-use Rattle.nfs_spec.specs.Procedures.FirstTests.{is_long, is_no_name, place_tests, unless}
+use Rattle.nfs_spec.specs.Procedures.FirstTests.{is_long, is_no_name, dentry_tests, unless}
 use Rattle.nfs_spec.specs.Procedures.Fresh.{without_size}
 use Rattle.nfs_spec.specs.Procedures.Places.{is_own_name}
-use Rattle.nfs_spec.specs.Procedures.Told.{Effect, answer_of, tree_after}
+use Rattle.nfs_spec.specs.Procedures.StepForms.{Effect, answer_of, tree_after}
 use Rattle.procs_names.proofs.LinksLemmas.Doing.{behind, done_not, stopped, unless_passed, unless_stopped}
 use Rattle.procs_updates.specs.Creates.Making.{IsMade}
 
@@ -67,7 +67,7 @@ module _ (stands : Tree → Type 0) (tree : Tree) (first rest : List (Bool × St
 
 -- the place of a name that passed its tests
 pub is_placed : (allowed : Bool) (directory : Node) (name : List ℕ)
-    → first_of_tests (place_tests allowed directory name) ≡ None → is_own_name name ≡ false
+    → first_of_tests (dentry_tests allowed directory name) ≡ None → is_own_name name ≡ false
     → Placed directory name
 is_placed allowed directory name none own =
     let kind = passed (not (is_directory directory.body)) _ _ none in
@@ -86,15 +86,15 @@ none_there (Some file) e = cc
 
 -- ---- what is in new files
 
-no_name : (name : List ℕ) (entry : DirectoryEntry)
-    → map.get (map.empty {X = DirectoryEntry} {R = slice_cmp nat_cmp}) name ≡ Some entry → ⊥
-no_name name entry is = let none = sym (map.get-empty (slice_cmp nat_cmp) name) ∙ is in cc
+no_name : (name : List ℕ) (dirent : DirentValue)
+    → map.get (map.empty {X = DirentValue} {R = slice_cmp nat_cmp}) name ≡ Some dirent → ⊥
+no_name name dirent is = let none = sym (map.get-empty (slice_cmp nat_cmp) name) ∙ is in cc
 
 pub no_names_sound : SoundEntries map.empty 0
 no_names_sound = record {
   blocks = omega arith;
-  names = λ name entry is. absurd (no_name name entry is);
-  slots = λ name entry is. absurd (no_name name entry is);
+  names = λ name dirent is. absurd (no_name name dirent is);
+  slots = λ name dirent is. absurd (no_name name dirent is);
   distinct = λ one other a b is too same. absurd (no_name one a is);
 }
 

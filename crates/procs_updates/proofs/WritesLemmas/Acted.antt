@@ -16,40 +16,40 @@ use Rattle.nfs_spec.proofs.ProceduresLemmas.SoundSteps.{step_sound}
 use Rattle.nfs_spec.specs.Procedures.FirstTests.{found_then, unless}
 use Rattle.nfs_spec.specs.Procedures.Fresh.{IsNewNumber}
 use Rattle.nfs_spec.specs.Procedures.Step.{numbered_step}
-use Rattle.nfs_spec.specs.Procedures.Told.{Acts, Effect, answer_of, change_told, tree_after}
-use Rattle.procs_files.specs.declared.head.Head.{Head}
-use Rattle.procs_files.specs.Changing.{headed}
+use Rattle.nfs_spec.specs.Procedures.StepForms.{Acts, Effect, answer_of, change_between, tree_after}
+use Rattle.procs_files.specs.declared.inode_attributes.InodeAttributes.{InodeAttributes}
+use Rattle.procs_files.specs.Writable.{headed}
 use Rattle.procs_files.specs.Heads.{IsBodyOf, IsFileIn, node_of}
 use Rattle.procs_updates.specs.Writes.Acting.{IsActed}
 use Rattle.procs_updates.proofs.WritesLemmas.Touched.{put_there}
 
 -- a refused handle
 pub not_found : {A : Type 0} (tree : Tree) (handle : List ℕ) (act : ℕ → Node → Result (Effect A) Status)
-    (status : Status) (outcome : Result A Status) (told : WeakCacheData) → find_file tree handle ≡ Err status
-    → outcome ≡ Err status → told ≡ untold → Acts tree handle act outcome told tree
-not_found tree handle act status outcome told is answered parts = record {
+    (status : Status) (outcome : Result A Status) (file_attributes : WeakCacheData) → find_file tree handle ≡ Err status
+    → outcome ≡ Err status → file_attributes ≡ untold → Acts tree handle act outcome file_attributes tree
+not_found tree handle act status outcome file_attributes is answered parts = record {
   answered = answered ∙ ap (λ f. answer_of (found_then f act)) (sym is);
   leads = ap (λ f. tree_after tree (found_then f act)) (sym is);
-  parts = parts ∙ ap (change_told tree) (sym is);
+  parts = parts ∙ ap (change_between tree) (sym is);
 }
 
 -- what the act itself answers and leads to is a step
 acts_so : {A : Type 0} (tree : Tree) (handle : List ℕ) (act : ℕ → Node → Result (Effect A) Status)
     → Acts tree handle act (answer_of (found_then (find_file tree handle) act))
-    (change_told (tree_after tree (found_then (find_file tree handle) act)) (find_file tree handle))
+    (change_between (tree_after tree (found_then (find_file tree handle) act)) (find_file tree handle))
     (tree_after tree (found_then (find_file tree handle) act))
 acts_so tree handle act = record { answered = refl; leads = refl; parts = refl }
 
-module _ {A : Type 0} (tree : Tree) (handle : List ℕ) (act : ℕ → Node → Result (Effect A) Status) (head : Head)
-    (body : Body) (is : find_file tree handle ≡ Ok (head.number, node_of head body)) where
+module _ {A : Type 0} (tree : Tree) (handle : List ℕ) (act : ℕ → Node → Result (Effect A) Status) (inode_attributes : InodeAttributes)
+    (body : Body) (is : find_file tree handle ≡ Ok (inode_attributes.number, node_of inode_attributes body)) where
   abbrev next : Tree
-  next = tree_after tree (act head.number (node_of head body))
+  next = tree_after tree (act inode_attributes.number (node_of inode_attributes body))
 
   -- its tree is sound
   pub next_sound : (ctx : Ctx) (asked : Call) (new : Option ℕ) (reply : Result A Status → WeakCacheData → Reply)
       → Sound tree → SoundCtx ctx → CallFits asked → IsNewNumber tree new
-      → ((outcome : Result A Status) (told : WeakCacheData) (after : Tree) → Acts tree handle act outcome told after
-      → numbered_step tree ctx new asked (reply outcome told) after)
+      → ((outcome : Result A Status) (file_attributes : WeakCacheData) (after : Tree) → Acts tree handle act outcome file_attributes after
+      → numbered_step tree ctx new asked (reply outcome file_attributes) after)
       → Sound next
   next_sound ctx asked new reply good now fits is_new steps =
       subst (λ f. Sound (tree_after tree (found_then f act))) is
@@ -60,62 +60,62 @@ module _ {A : Type 0} (tree : Tree) (handle : List ℕ) (act : ℕ → Node → 
       }))
 
   -- it is what was done
-  pub acted : (stands : Tree → Type 0) (outcome : Result A Status) (last : Head) (told : WeakCacheData)
-      → IsBodyOf head body
-      → IsActed stands tree head.number (act head.number (node_of head body)) outcome last
-      → ((body after : Body) → IsBodyOf head body → IsBodyOf last after → told ≡ record {
-        before = Some (before_change (node_of head body));
+  pub acted : (stands : Tree → Type 0) (outcome : Result A Status) (last : InodeAttributes) (file_attributes : WeakCacheData)
+      → IsBodyOf inode_attributes body
+      → IsActed stands tree inode_attributes.number (act inode_attributes.number (node_of inode_attributes body)) outcome last
+      → ((body after : Body) → IsBodyOf inode_attributes body → IsBodyOf last after → file_attributes ≡ record {
+        before = Some (before_change (node_of inode_attributes body));
         after = Some (attributes_of last.number (node_of last after));
       })
-      → (next : Tree) × Acts tree handle act outcome told next × stands next
-  acted stands outcome last told fits done tells = (
+      → (next : Tree) × Acts tree handle act outcome file_attributes next × stands next
+  acted stands outcome last file_attributes fits done tells = (
     next,
     record {
       answered = done.answered ∙ ap (λ f. answer_of (found_then f act)) (sym is);
       leads = ap (λ f. tree_after tree (found_then f act)) (sym is);
       parts = tells body done.body fits done.there.fits
           ∙ (λ i. record {
-            before = Some (before_change (node_of head body));
+            before = Some (before_change (node_of inode_attributes body));
             after = there i;
           })
-          ∙ ap (change_told next) (sym is);
+          ∙ ap (change_between next) (sym is);
     },
     done.leads,
   )
     where
       there : Some (attributes_of last.number (node_of last done.body))
-          ≡ option_map (attributes_of head.number) (node_at next head.number)
+          ≡ option_map (attributes_of inode_attributes.number) (node_at next inode_attributes.number)
       there = ap (λ n. Some (attributes_of n (node_of last done.body))) done.number_is
-          ∙ ap (option_map (attributes_of head.number)) (sym done.there.there
+          ∙ ap (option_map (attributes_of inode_attributes.number)) (sym done.there.there
           ∙ ap (node_at next) done.number_is)
 
 -- a file was put under its number
 pub put_acted : {A : Type 0} (stands : Tree → Type 0) (tree : Tree) (number : ℕ)
-    (effect : Result (Effect A) Status) (outcome : Result A Status) (last head : Head) (new : Body) (answer : A)
-    → effect ≡ Ok (record { answer = answer; next = with_node tree head.number (node_of head new) })
-    → last ≡ headed head new → head.number ≡ number → IsBodyOf (headed head new) new → outcome ≡ Ok answer
-    → stands (with_node tree head.number (node_of head new)) → IsActed stands tree number effect outcome last
-put_acted stands tree number effect outcome last head new answer is same number_is fits told stand = record {
-  answered = told ∙ ap answer_of (sym is);
+    (effect : Result (Effect A) Status) (outcome : Result A Status) (last inode_attributes : InodeAttributes) (new : Body) (answer : A)
+    → effect ≡ Ok (record { answer = answer; next = with_node tree inode_attributes.number (node_of inode_attributes new) })
+    → last ≡ headed inode_attributes new → inode_attributes.number ≡ number → IsBodyOf (headed inode_attributes new) new → outcome ≡ Ok answer
+    → stands (with_node tree inode_attributes.number (node_of inode_attributes new)) → IsActed stands tree number effect outcome last
+put_acted stands tree number effect outcome last inode_attributes new answer is same number_is fits proven stand = record {
+  answered = proven ∙ ap answer_of (sym is);
   leads = subst (λ e. stands (tree_after tree e)) (sym is) stand;
-  number_is = ap (λ (h : Head). h.number) same ∙ number_is;
+  number_is = ap (λ (h : InodeAttributes). h.number) same ∙ number_is;
   body = new;
   there = subst (λ t. IsFileIn t last new) (ap (tree_after tree) (sym is))
-      (subst (λ h. IsFileIn (with_node tree head.number (node_of head new)) h new) (sym same) (record {
-        there = put_there tree head.number (node_of head new);
+      (subst (λ h. IsFileIn (with_node tree inode_attributes.number (node_of inode_attributes new)) h new) (sym same) (record {
+        there = put_there tree inode_attributes.number (node_of inode_attributes new);
         fits = fits;
       }));
 }
 
 -- nothing was done
 pub left_acted : {A : Type 0} (stands : Tree → Type 0) (tree : Tree) (effect : Result (Effect A) Status)
-    (outcome : Result A Status) (last head : Head) (body : Body) (why : Status) → IsFileIn tree head body
-    → stands tree → effect ≡ Err why → outcome ≡ Err why → last ≡ head
-    → IsActed stands tree head.number effect outcome last
-left_acted stands tree effect outcome last head body why at stand is told same = record {
-  answered = told ∙ ap answer_of (sym is);
+    (outcome : Result A Status) (last inode_attributes : InodeAttributes) (body : Body) (why : Status) → IsFileIn tree inode_attributes body
+    → stands tree → effect ≡ Err why → outcome ≡ Err why → last ≡ inode_attributes
+    → IsActed stands tree inode_attributes.number effect outcome last
+left_acted stands tree effect outcome last inode_attributes body why at stand is proven same = record {
+  answered = proven ∙ ap answer_of (sym is);
   leads = subst (λ e. stands (tree_after tree e)) (sym is) stand;
-  number_is = ap (λ (h : Head). h.number) same;
+  number_is = ap (λ (h : InodeAttributes). h.number) same;
   body = body;
   there = subst (λ t. IsFileIn t last body) (ap (tree_after tree) (sym is))
       (subst (λ h. IsFileIn tree h body) (sym same) at);

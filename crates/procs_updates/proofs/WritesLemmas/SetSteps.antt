@@ -16,30 +16,30 @@ use Rattle.nfs_spec.specs.Model.SetAttr.{SetAttrStep, SetFound, SetOrLeft, fails
 use Rattle.nfs_spec.specs.Model.SetAttr.{is_no_time, is_not_permitted, refusal, with_attributes, with_length, is_invalid}
 use Rattle.nfs_spec.specs.Model.Sound.{Sound, SoundCtx}
 use Rattle.nfs_spec.specs.Model.Tree.{Tree, node_at, with_node}
-use Rattle.nfs_spec.proofs.ProceduresLemmas.Deeds.{passed}
+use Rattle.nfs_spec.proofs.ProceduresLemmas.TreeChanges.{passed}
 use Rattle.nfs_spec.proofs.ProceduresLemmas.Soundness.{set_sound}
 use Rattle.nfs_spec.specs.Procedures.FirstTests.{unless}
-use Rattle.nfs_spec.specs.Procedures.Told.{Effect, answer_of, tree_after}
-use Rattle.procs_files.specs.declared.head.Head.{Head}
-use Rattle.procs_files.specs.Changing.{SoundHead, headed}
+use Rattle.nfs_spec.specs.Procedures.StepForms.{Effect, answer_of, tree_after}
+use Rattle.procs_files.specs.declared.inode_attributes.InodeAttributes.{InodeAttributes}
+use Rattle.procs_files.specs.Writable.{SoundInodeAttributes, headed}
 use Rattle.procs_files.specs.Heads.{IsBodyOf, IsFileIn, bare, node_of}
 use Rattle.procs_files.proofs.KindsAgree.{regular_agrees}
-use Rattle.procs_updates.specs.Writes.Acting.{IsActed, set_head, setting}
+use Rattle.procs_updates.specs.Writes.Acting.{IsActed, set_inode_attributes, setting}
 use Rattle.procs_updates.proofs.WritesLemmas.Acted.{put_acted, unless_none}
-use Rattle.procs_updates.proofs.WritesLemmas.SoundHeads.{sound_head, sound_headed}
+use Rattle.procs_updates.proofs.WritesLemmas.SoundHeads.{sound_inode_attributes, sound_headed}
 use Rattle.procs_updates.proofs.WritesLemmas.Touched.{headed_fits, length_alike, put_there}
 
 -- the tests look at the file's kind alone
-pub refusal_agrees : (ctx : Ctx) (wanted : NewAttributes) (guard : Option Moment) (tree : Tree) (head : Head)
-    (body : Body) → IsFileIn tree head body
-    → refusal ctx wanted guard (bare head) ≡ refusal ctx wanted guard (node_of head body)
-refusal_agrees ctx wanted guard tree head body at =
-    ap (λ b. first_of_tests ((fails_guard guard (bare head), status.NotSync)
+pub refusal_agrees : (ctx : Ctx) (wanted : NewAttributes) (guard : Option Moment) (tree : Tree) (inode_attributes : InodeAttributes)
+    (body : Body) → IsFileIn tree inode_attributes body
+    → refusal ctx wanted guard (bare inode_attributes) ≡ refusal ctx wanted guard (node_of inode_attributes body)
+refusal_agrees ctx wanted guard tree inode_attributes body at =
+    ap (λ b. first_of_tests ((fails_guard guard (bare inode_attributes), status.NotSync)
     ∷ (is_no_time wanted.atime || is_no_time wanted.mtime || is_some wanted.size && not b, status.Inval)
-    ∷ (is_not_permitted ctx.credential wanted (bare head), status.Perm)
-    ∷ (is_no_access ctx.credential wanted (bare head), status.Acces)
+    ∷ (is_not_permitted ctx.credential wanted (bare inode_attributes), status.Perm)
+    ∷ (is_no_access ctx.credential wanted (bare inode_attributes), status.Acces)
     ∷ (given wanted.size (λ size. nat_lt LARGEST_FILE size), status.FBig)
-    ∷ [])) (sym (regular_agrees head body at.fits.kind))
+    ∷ [])) (sym (regular_agrees inode_attributes body at.fits.kind))
 
 -- a size that isn't refused is none past the largest
 pub small_size : (ctx : Ctx) (wanted : NewAttributes) (guard : Option Moment) (node : Node)
@@ -51,7 +51,7 @@ small_size ctx wanted guard node is =
     let may = passed (is_no_access ctx.credential wanted node) _ _ permitted.1 in
     (passed (given wanted.size (λ size. nat_lt LARGEST_FILE size)) _ _ may.1).0
 
-module _ (tree : Tree) (ctx : Ctx) (wanted : NewAttributes) (guard : Option Moment) (file : Head) (body : Body)
+module _ (tree : Tree) (ctx : Ctx) (wanted : NewAttributes) (guard : Option Moment) (file : InodeAttributes) (body : Body)
     (at : IsFileIn tree file body) where
   abbrev node : Node
   node = node_of file body
@@ -82,39 +82,39 @@ module _ (tree : Tree) (ctx : Ctx) (wanted : NewAttributes) (guard : Option Mome
       by (Some why) is = good
 
   -- the head of the file then
-  pub head_sound : refusal ctx wanted guard node ≡ None
+  pub inode_attributes_sound : refusal ctx wanted guard node ≡ None
       → Sound (tree_after tree (setting tree ctx wanted guard file.number node))
-      → SoundHead tree.geometry.inodes (set_head ctx.moment wanted file)
-  head_sound is good =
+      → SoundInodeAttributes tree.geometry.inodes (set_inode_attributes ctx.moment wanted file)
+  inode_attributes_sound is good =
       let next = with_node tree file.number (with_attributes ctx.moment wanted node) in
       let sound : Sound next = subst (λ e. Sound (tree_after tree e)) (unless_none (refusal ctx wanted guard node) _ is) good in
-      sound_headed tree.geometry.inodes (set_head ctx.moment wanted file) new
-      (sound_head next (headed (set_head ctx.moment wanted file) new) new sound
+      sound_headed tree.geometry.inodes (set_inode_attributes ctx.moment wanted file) new
+      (sound_inode_attributes next (headed (set_inode_attributes ctx.moment wanted file) new) new sound
       (put_there tree file.number (with_attributes ctx.moment wanted node))
       new_fits)
     where
-      new_fits : IsBodyOf (headed (set_head ctx.moment wanted file) new) new
-      new_fits = headed_fits (set_head ctx.moment wanted file) body new (record {
+      new_fits : IsBodyOf (headed (set_inode_attributes ctx.moment wanted file) new) new
+      new_fits = headed_fits (set_inode_attributes ctx.moment wanted file) body new (record {
         kind = at.fits.kind;
         size = at.fits.size;
         used = at.fits.used;
         parent = at.fits.parent;
       }) (length_alike wanted.size body)
 
-  pub set_fits : IsBodyOf (headed (set_head ctx.moment wanted file) new) new
-  set_fits = headed_fits (set_head ctx.moment wanted file) body new (record {
+  pub set_fits : IsBodyOf (headed (set_inode_attributes ctx.moment wanted file) new) new
+  set_fits = headed_fits (set_inode_attributes ctx.moment wanted file) body new (record {
     kind = at.fits.kind;
     size = at.fits.size;
     used = at.fits.used;
     parent = at.fits.parent;
   }) (length_alike wanted.size body)
 
-  pub set_acted : (stands : Tree → Type 0) (last : Head) → refusal ctx wanted guard node ≡ None
-      → last ≡ headed (set_head ctx.moment wanted file) new
+  pub set_acted : (stands : Tree → Type 0) (last : InodeAttributes) → refusal ctx wanted guard node ≡ None
+      → last ≡ headed (set_inode_attributes ctx.moment wanted file) new
       → stands (with_node tree file.number (with_attributes ctx.moment wanted node))
       → IsActed stands tree file.number (setting tree ctx wanted guard file.number node) (Ok tt) last
   set_acted stands last is same stand =
-      put_acted stands tree file.number _ (Ok tt) last (set_head ctx.moment wanted file) new tt
+      put_acted stands tree file.number _ (Ok tt) last (set_inode_attributes ctx.moment wanted file) new tt
       (unless_none (refusal ctx wanted guard node) _ is) same refl set_fits refl stand
 
   -- what it does where this test says so
@@ -125,23 +125,23 @@ module _ (tree : Tree) (ctx : Ctx) (wanted : NewAttributes) (guard : Option Mome
   }))
 
   -- what was done is a step
-  pub set_step : (stands : Tree → Type 0) (handle : List ℕ) (outcome : Result (Unit {0}) Status) (last : Head)
-      (told : WeakCacheData) → find_file tree handle ≡ Ok (file.number, node)
+  pub set_step : (stands : Tree → Type 0) (handle : List ℕ) (outcome : Result (Unit {0}) Status) (last : InodeAttributes)
+      (file_attributes : WeakCacheData) → find_file tree handle ≡ Ok (file.number, node)
       → IsActed stands tree file.number (setting tree ctx wanted guard file.number node) outcome last
-      → ((body after : Body) → IsBodyOf file body → IsBodyOf last after → told ≡ record {
+      → ((body after : Body) → IsBodyOf file body → IsBodyOf last after → file_attributes ≡ record {
         before = Some (before_change (node_of file body));
         after = Some (attributes_of last.number (node_of last after));
       })
-      → (next : Tree) × SetAttrStep tree ctx handle wanted guard outcome told next × stands next
-  set_step stands handle outcome last told is done tells = (
+      → (next : Tree) × SetAttrStep tree ctx handle wanted guard outcome file_attributes next × stands next
+  set_step stands handle outcome last file_attributes is done tells = (
     tree_after tree (setting tree ctx wanted guard file.number node),
-    subst (λ f. SetFound tree ctx wanted guard f outcome told
+    subst (λ f. SetFound tree ctx wanted guard f outcome file_attributes
         (tree_after tree (setting tree ctx wanted guard file.number node))) (sym is)
         (by (refusal ctx wanted guard node) done.answered (done.there.there)),
     done.leads,
   )
     where
-      parts : (after : Node) → node_of last done.body ≡ after → told ≡ change_of file.number node after
+      parts : (after : Node) → node_of last done.body ≡ after → file_attributes ≡ change_of file.number node after
       parts after same =
           tells body done.body at.fits done.there.fits
           ∙ (λ i. record {
@@ -157,7 +157,7 @@ module _ (tree : Tree) (ctx : Ctx) (wanted : NewAttributes) (guard : Option Mome
 
       by : (test : Option Status) → outcome ≡ answer_of (effect test)
           → node_at (tree_after tree (effect test)) last.number ≡ Some (node_of last done.body)
-          → SetOrLeft tree file.number node (with_attributes ctx.moment wanted node) test outcome told
+          → SetOrLeft tree file.number node (with_attributes ctx.moment wanted node) test outcome file_attributes
           (tree_after tree (effect test))
       by None answered here = record {
         done = answered;

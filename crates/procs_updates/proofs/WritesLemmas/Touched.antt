@@ -15,19 +15,19 @@ use Rattle.nfs_spec.specs.Model.Tree.{Tree, node_at, with_node}
 use Rattle.nfs_spec.proofs.ProceduresLemmas.Parts.{insert_same}
 use Rattle.nfs_spec.specs.Procedures.Rename.{with_parent}
 use Rattle.nfs_spec.specs.Procedures.Write.{with_text}
-use Rattle.procs_files.specs.declared.head.Head.{Head}
-use Rattle.procs_files.specs.Changing.{SoundHead, headed}
+use Rattle.procs_files.specs.declared.inode_attributes.InodeAttributes.{InodeAttributes}
+use Rattle.procs_files.specs.Writable.{SoundInodeAttributes, headed}
 use Rattle.procs_files.specs.Heads.{IsBodyOf}
-use Rattle.procs_updates.specs.Writes.Acting.{set_head, touched_head}
+use Rattle.procs_updates.specs.Writes.Acting.{set_inode_attributes, touched_inode_attributes}
 
 pub same_parent : (parent : ℕ) (body : Body) → parent_of body ≡ parent → with_parent parent body ≡ body
 same_parent parent (Regular bytes mapped) is = refl
 same_parent parent (Directory named span old) is = ap (Directory named span) (sym is)
 same_parent parent (Link target) is = refl
 
-pub touched_sound : (inodes : ℕ) (moment : Moment) (head : Head) → SoundTime moment → SoundHead inodes head
-    → SoundHead inodes (touched_head moment head)
-touched_sound inodes moment head now sound = record {
+pub touched_sound : (inodes : ℕ) (moment : Moment) (inode_attributes : InodeAttributes) → SoundTime moment → SoundInodeAttributes inodes inode_attributes
+    → SoundInodeAttributes inodes (touched_inode_attributes moment inode_attributes)
+touched_sound inodes moment inode_attributes now sound = record {
   mode = sound.mode;
   uid = sound.uid;
   gid = sound.gid;
@@ -42,8 +42,8 @@ touched_sound inodes moment head now sound = record {
 }
 
 -- a head that has the size of what is in its file
-pub headed_is : (head : Head) (body : Body) → IsBodyOf head body → headed head body ≡ head
-headed_is head body fits = λ i. record head { size = fits.size i; used = fits.used i }
+pub headed_is : (inode_attributes : InodeAttributes) (body : Body) → IsBodyOf inode_attributes body → headed inode_attributes body ≡ inode_attributes
+headed_is inode_attributes body fits = λ i. record inode_attributes { size = fits.size i; used = fits.used i }
 
 taken : (b : Bool) (v : Node) (o : Option Node) → b ≡ true → cond b (Some v) o ≡ Some v
 taken true v o e = refl
@@ -71,8 +71,8 @@ length_alike (Some size) (Regular bytes mapped) = record { kind = refl; parent =
 length_alike (Some size) (Directory named span parent) = record { kind = refl; parent = refl }
 length_alike (Some size) (Link target) = record { kind = refl; parent = refl }
 
-pub headed_fits : (head : Head) (old new : Body) → IsBodyOf head old → Alike old new → IsBodyOf (headed head new) new
-headed_fits head old new fits alike = record {
+pub headed_fits : (inode_attributes : InodeAttributes) (old new : Body) → IsBodyOf inode_attributes old → Alike old new → IsBodyOf (headed inode_attributes new) new
+headed_fits inode_attributes old new fits alike = record {
   kind = alike.kind ∙ fits.kind;
   size = refl;
   used = refl;
@@ -80,14 +80,14 @@ headed_fits head old new fits alike = record {
 }
 
 -- a tree in which a file is put again
-pub kept_tree : (tree : Tree) (number : ℕ) (node : Node) → node_at tree number ≡ Some node
+pub preserved_tree : (tree : Tree) (number : ℕ) (node : Node) → node_at tree number ≡ Some node
     → with_node tree number node ≡ tree
-kept_tree tree number node was =
+preserved_tree tree number node was =
     λ i. record { geometry = tree.geometry; nodes = insert_same nat_cmp_total nat_cmp-IsAntisymmetric tree.nodes number node was i }
 
 -- attributes that are set leave what is in the file
-pub same_fits : (moment : Moment) (wanted : NewAttributes) (file : Head) (body : Body) → IsBodyOf file body
-    → IsBodyOf (set_head moment wanted file) body
+pub same_fits : (moment : Moment) (wanted : NewAttributes) (file : InodeAttributes) (body : Body) → IsBodyOf file body
+    → IsBodyOf (set_inode_attributes moment wanted file) body
 same_fits moment wanted file body fits = record {
   kind = fits.kind;
   size = fits.size;
@@ -95,8 +95,8 @@ same_fits moment wanted file body fits = record {
   parent = fits.parent;
 }
 
-pub touched_fits : (moment : Moment) (file : Head) (body : Body) → IsBodyOf file body
-    → IsBodyOf (touched_head moment file) body
+pub touched_fits : (moment : Moment) (file : InodeAttributes) (body : Body) → IsBodyOf file body
+    → IsBodyOf (touched_inode_attributes moment file) body
 touched_fits moment file body fits = record {
   kind = fits.kind;
   size = fits.size;

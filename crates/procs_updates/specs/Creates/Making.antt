@@ -17,14 +17,14 @@ use Rattle.nfs_spec.specs.Procedures.FirstTests.{is_long, is_no_name}
 use Rattle.nfs_spec.specs.Procedures.Fresh.{IsNewNumber, IsUnused, fresh}
 use Rattle.nfs_spec.specs.Procedures.MkDir.{is_full}
 use Rattle.nfs_spec.specs.Procedures.Places.{is_own_name, named_file}
-use Rattle.nfs_spec.specs.Procedures.Told.{Effect}
-use Rattle.procs_files.specs.Changing.{SoundHead, first_body}
+use Rattle.nfs_spec.specs.Procedures.StepForms.{Effect}
+use Rattle.procs_files.specs.Writable.{SoundInodeAttributes, first_body}
 use Rattle.procs_files.specs.Heads.{IsBodyOf, IsDone, node_of}
-use Rattle.procs_files.specs.declared.head.Head.{Head}
+use Rattle.procs_files.specs.declared.inode_attributes.InodeAttributes.{InodeAttributes}
 
 -- a file of the caller's, made now by this transaction, of no size
-abbrev pub blank_head : Ctx → FileKind → ℕ → Option Verifier → ℕ → Head
-blank_head ctx kind mode verifier nlink = record {
+abbrev pub blank_inode_attributes : Ctx → FileKind → ℕ → Option Verifier → ℕ → InodeAttributes
+blank_inode_attributes ctx kind mode verifier nlink = record {
   number = 0;
   kind = kind;
   mode = mode;
@@ -42,11 +42,11 @@ blank_head ctx kind mode verifier nlink = record {
 }
 
 -- The head is that of a new file with this in it, but for its number, before its attributes are set.
-pub record IsFresh (ctx : Ctx) (head : Head) (target : List ℕ) (mode : ℕ) (verifier : Option Verifier)
+pub record IsFresh (ctx : Ctx) (inode_attributes : InodeAttributes) (target : List ℕ) (mode : ℕ) (verifier : Option Verifier)
     (body : Body) : Type 0 where
-  pub is : node_of head body ≡ fresh ctx mode verifier body
-  pub fits : IsBodyOf head body
-  pub first : first_body head target ≡ body
+  pub is : node_of inode_attributes body ≡ fresh ctx mode verifier body
+  pub fits : IsBodyOf inode_attributes body
+  pub first : first_body inode_attributes target ≡ body
 
 -- The tests of a new file in a directory were passed, and the call fits.
 pub record CanMake (tree : Tree) (at : ℕ) (directory : Node) (name : List ℕ) (wanted : NewAttributes) (mode : ℕ)
@@ -75,11 +75,11 @@ pub record IsNewName (tree : Tree) (directory : Node) (name : List ℕ) : Type 0
   pub bytes : AreBytes name
 
 -- A file of this head, with this in it, can be put into the tree.
-pub record CanMakeIn (tree : Tree) (head : Head) (body : Body) : Type 0 where
-  pub unused : IsUnused tree head.number
-  pub sound : SoundHead tree.geometry.inodes head
+pub record CanMakeIn (tree : Tree) (inode_attributes : InodeAttributes) (body : Body) : Type 0 where
+  pub unused : IsUnused tree inode_attributes.number
+  pub sound : SoundInodeAttributes tree.geometry.inodes inode_attributes
   pub lawful : SoundBody body
-  pub room : cost body ≤ free tree
+  pub has_space : cost body ≤ free tree
 
 -- For some number that a new file would get, it is done.
 pub record IsMade (stands : Tree → Type 0) (tree : Tree) (effect : Option ℕ → Result (Effect Created) Status)

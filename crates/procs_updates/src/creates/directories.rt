@@ -12,16 +12,20 @@ ghost use Rattle.procs_files.specs.Heads.{IsFileIn, IsFound, node_of};
 ghost use Rattle.procs_updates.specs.Creates.Making.{IsMade};
 ghost use Rattle.nfs_spec.specs.Procedures.MkDir.{mkdir_tests};
 
-use crate::creates::blanks::{blank_directory, without_size};
-use crate::creates::making::make;
+use crate::creates::blank_files::{blank_directory, without_size};
+use crate::creates::new_file::make;
 use base::MOST_LINKS;
 use nfs_types::{Created, Ctx, DirectoryName, NewAttributes, Status};
-use procs_files::{Changed, ChangingFiles, Head, find, is_own_name};
-use procs_names::{changed_to, refused, sought};
+use procs_files::{Changed, InodeAttributes, WritableFiles, find, is_own_name};
+use procs_names::{changed_to, lookup_for_change, refused};
 use std::alloc::Global;
 
 // Why no directory is made under a name that leads to this.
-fn directory_refusal(name: &[u8], directory: &Head, found: &Option<Head>) -> Option<Status>
+fn directory_refusal(
+    name: &[u8],
+    directory: &InodeAttributes,
+    found: &Option<InodeAttributes>,
+) -> Option<Status>
     ensures { (tree : Tree) (named : Option (ℕ × Node)) (inside : Body) → IsFound tree named found.now
         → result ≡ first_of_tests (mkdir_tests name.now (node_of directory.now inside) named) }
 {
@@ -34,27 +38,27 @@ fn directory_refusal(name: &[u8], directory: &Head, found: &Option<Head>) -> Opt
     }
 }
 
-fn make_directory_in<F: ChangingFiles>(
+fn make_directory_in<F: WritableFiles>(
     alloc: Global,
     files: &mut F,
     ctx: &Ctx,
-    directory: &Head,
+    directory: &InodeAttributes,
     name: &[u8],
     wanted: &NewAttributes,
-) -> Result<Result<Created, Status>, F::Stop>
-    ensures err { IfErr result (λ stop. F.may_stop (F.source files.old) stop) }
+) -> Result<Result<Created, Status>, F::Suspend>
+    ensures err { IfErr result (λ suspend. F.may_suspend (F.source files.old) suspend) }
     ensures source { F.source files.new ≡ F.source files.old }
-    ensures spent { F.spent files.new ≤ F.spent files.old + 11 }
-    ensures pause { IfErr result (λ stop. (world : F.World) (tree : Tree) (inside : Body)
+    ensures dirty_count { F.dirty_count files.new ≤ F.dirty_count files.old + 11 }
+    ensures resumable { IfErr result (λ suspend. (world : F.World) (tree : Tree) (inside : Body)
         → F.stands files.old world tree → IsFileIn tree directory.now inside → Sound tree → SoundCtx ctx.now
-        → AreBytes name.now → NewAttributesFit wanted.now → F.is_pause stop) }
+        → AreBytes name.now → NewAttributesFit wanted.now → F.is_resumable suspend) }
     ensures ok { IfOk result (λ r. (world : F.World) (tree : Tree) (inside : Body)
         → F.stands files.old world tree → IsFileIn tree directory.now inside → Sound tree → SoundCtx ctx.now
         → AreBytes name.now → NewAttributesFit wanted.now → IsMade (F.stands files.new world) tree
         (λ new. make_directory tree ctx.now name.now wanted.now new directory.now.number
         (node_of directory.now inside)) r) }
 {
-    let found = match sought(files, &ctx.credential, directory, name)? {
+    let found = match lookup_for_change(files, &ctx.credential, directory, name)? {
         Err(status) => return Ok(Err(status)),
         Ok(found) => found,
     };
@@ -67,18 +71,18 @@ fn make_directory_in<F: ChangingFiles>(
 }
 
 /// Makes a directory.
-pub fn make_directory<F: ChangingFiles>(
+pub fn make_directory<F: WritableFiles>(
     alloc: Global,
     files: &mut F,
     ctx: &Ctx,
     name: &DirectoryName,
     wanted: &NewAttributes,
-) -> Result<Changed<Created>, F::Stop>
-    ensures err { IfErr result (λ stop. F.may_stop (F.source files.old) stop) }
+) -> Result<Changed<Created>, F::Suspend>
+    ensures err { IfErr result (λ suspend. F.may_suspend (F.source files.old) suspend) }
     ensures source { F.source files.new ≡ F.source files.old }
-    ensures spent { F.spent files.new ≤ F.spent files.old + 11 }
-    ensures pause { IfErr result (λ stop. (world : F.World) (tree : Tree) → F.stands files.old world tree
-        → Sound tree → SoundCtx ctx.now → CallFits (call.MkDir name.now wanted.now) → F.is_pause stop) }
+    ensures dirty_count { F.dirty_count files.new ≤ F.dirty_count files.old + 11 }
+    ensures resumable { IfErr result (λ suspend. (world : F.World) (tree : Tree) → F.stands files.old world tree
+        → Sound tree → SoundCtx ctx.now → CallFits (call.MkDir name.now wanted.now) → F.is_resumable suspend) }
     ensures step { IfOk result (λ r. (world : F.World) (tree : Tree) → F.stands files.old world tree
         → Sound tree → SoundCtx ctx.now → CallFits (call.MkDir name.now wanted.now)
         → (new : Option ℕ) × IsNewNumber tree new × (next : Tree)

@@ -12,16 +12,16 @@ ghost use Rattle.procs_files.specs.Heads.{IsFileIn, IsFound, node_of};
 ghost use Rattle.procs_updates.specs.Creates.Making.{IsMade};
 ghost use Rattle.nfs_spec.specs.Procedures.SymLink.{symlink_tests};
 
-use crate::creates::blanks::{blank_link, without_size};
-use crate::creates::making::make;
+use crate::creates::blank_files::{blank_link, without_size};
+use crate::creates::new_file::make;
 use base::TARGET_BYTES;
 use nfs_types::{Created, Ctx, DirectoryName, NewAttributes, Octets, Status};
-use procs_files::{Changed, ChangingFiles, Head, find, is_own_name};
-use procs_names::{changed_to, refused, sought};
+use procs_files::{Changed, InodeAttributes, WritableFiles, find, is_own_name};
+use procs_names::{changed_to, lookup_for_change, refused};
 use std::alloc::Global;
 
 // Why no link is made under a name that leads to this.
-fn link_refusal(name: &[u8], target: &[u8], found: &Option<Head>) -> Option<Status>
+fn link_refusal(name: &[u8], target: &[u8], found: &Option<InodeAttributes>) -> Option<Status>
     ensures { (tree : Tree) (named : Option (ℕ × Node)) → IsFound tree named found.now
         → result ≡ first_of_tests (symlink_tests name.now target.now named) }
 {
@@ -36,21 +36,21 @@ fn link_refusal(name: &[u8], target: &[u8], found: &Option<Head>) -> Option<Stat
     }
 }
 
-fn make_link_in<F: ChangingFiles>(
+fn make_link_in<F: WritableFiles>(
     alloc: Global,
     files: &mut F,
     ctx: &Ctx,
-    directory: &Head,
+    directory: &InodeAttributes,
     name: &[u8],
     wanted: &NewAttributes,
     target: &[u8],
-) -> Result<Result<Created, Status>, F::Stop>
-    ensures err { IfErr result (λ stop. F.may_stop (F.source files.old) stop) }
+) -> Result<Result<Created, Status>, F::Suspend>
+    ensures err { IfErr result (λ suspend. F.may_suspend (F.source files.old) suspend) }
     ensures source { F.source files.new ≡ F.source files.old }
-    ensures spent { F.spent files.new ≤ F.spent files.old + 11 }
-    ensures pause { IfErr result (λ stop. (world : F.World) (tree : Tree) (inside : Body)
+    ensures dirty_count { F.dirty_count files.new ≤ F.dirty_count files.old + 11 }
+    ensures resumable { IfErr result (λ suspend. (world : F.World) (tree : Tree) (inside : Body)
         → F.stands files.old world tree → IsFileIn tree directory.now inside → Sound tree → SoundCtx ctx.now
-        → AreBytes name.now → NewAttributesFit wanted.now → AreBytes target.now → F.is_pause stop) }
+        → AreBytes name.now → NewAttributesFit wanted.now → AreBytes target.now → F.is_resumable suspend) }
     ensures ok { IfOk result (λ r. (world : F.World) (tree : Tree) (inside : Body)
         → F.stands files.old world tree → IsFileIn tree directory.now inside → Sound tree → SoundCtx ctx.now
         → AreBytes name.now → NewAttributesFit wanted.now → AreBytes target.now
@@ -58,7 +58,7 @@ fn make_link_in<F: ChangingFiles>(
         (λ new. make_link tree ctx.now name.now wanted.now target.now new directory.now.number
         (node_of directory.now inside)) r) }
 {
-    let found = match sought(files, &ctx.credential, directory, name)? {
+    let found = match lookup_for_change(files, &ctx.credential, directory, name)? {
         Err(status) => return Ok(Err(status)),
         Ok(found) => found,
     };
@@ -71,20 +71,20 @@ fn make_link_in<F: ChangingFiles>(
 }
 
 /// Makes a link with this target.
-pub fn make_link<F: ChangingFiles>(
+pub fn make_link<F: WritableFiles>(
     alloc: Global,
     files: &mut F,
     ctx: &Ctx,
     name: &DirectoryName,
     wanted: &NewAttributes,
     target: &Octets,
-) -> Result<Changed<Created>, F::Stop>
-    ensures err { IfErr result (λ stop. F.may_stop (F.source files.old) stop) }
+) -> Result<Changed<Created>, F::Suspend>
+    ensures err { IfErr result (λ suspend. F.may_suspend (F.source files.old) suspend) }
     ensures source { F.source files.new ≡ F.source files.old }
-    ensures spent { F.spent files.new ≤ F.spent files.old + 11 }
-    ensures pause { IfErr result (λ stop. (world : F.World) (tree : Tree) → F.stands files.old world tree
+    ensures dirty_count { F.dirty_count files.new ≤ F.dirty_count files.old + 11 }
+    ensures resumable { IfErr result (λ suspend. (world : F.World) (tree : Tree) → F.stands files.old world tree
         → Sound tree → SoundCtx ctx.now → CallFits (call.SymLink name.now wanted.now target.now)
-        → F.is_pause stop) }
+        → F.is_resumable suspend) }
     ensures step { IfOk result (λ r. (world : F.World) (tree : Tree) → F.stands files.old world tree
         → Sound tree → SoundCtx ctx.now → CallFits (call.SymLink name.now wanted.now target.now)
         → (new : Option ℕ) × IsNewNumber tree new × (next : Tree)

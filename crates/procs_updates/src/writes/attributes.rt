@@ -1,11 +1,11 @@
 //! The attributes of a file as they are set (RFC 1813, section 3.3.2).
 ghost use Rattle.std.specs.Prelude.{◌≡◌};
 ghost use Rattle.nfs_spec.specs.Model.SetAttr.{mode_of, set_time, with_size};
-ghost use Rattle.procs_updates.specs.Writes.Acting.{set_head, touched_head};
+ghost use Rattle.procs_updates.specs.Writes.Acting.{set_inode_attributes, touched_inode_attributes};
 
 use base::MODE_BITS;
 use nfs_types::{Moment, NewAttributes, SetTime};
-use procs_files::Head;
+use procs_files::InodeAttributes;
 
 fn set_time(moment: &Moment, time: &SetTime, old: &Moment) -> Moment
     ensures { result ≡ set_time moment.now time.now old.now }
@@ -37,11 +37,15 @@ fn mode_of(mode: &Option<u32>, old: u32) -> u32
 }
 
 /// The head with the attributes that are given, but for the size.
-pub fn set_head(moment: &Moment, wanted: &NewAttributes, file: &Head) -> Head
-    ensures { result ≡ set_head moment.now wanted.now file.now }
+pub fn set_inode_attributes(
+    moment: &Moment,
+    wanted: &NewAttributes,
+    file: &InodeAttributes,
+) -> InodeAttributes
+    ensures { result ≡ set_inode_attributes moment.now wanted.now file.now }
 {
     let mtime = with_size(&wanted.size, &wanted.mtime);
-    Head {
+    InodeAttributes {
         mode: mode_of(&wanted.mode, file.mode),
         uid: wanted.uid.unwrap_or(file.uid),
         gid: wanted.gid.unwrap_or(file.gid),
@@ -53,10 +57,10 @@ pub fn set_head(moment: &Moment, wanted: &NewAttributes, file: &Head) -> Head
 }
 
 /// The head of a file whose bytes or names change at this moment.
-pub fn touched_head(moment: &Moment, file: &Head) -> Head
-    ensures { result ≡ touched_head moment.now file.now }
+pub fn touched_inode_attributes(moment: &Moment, file: &InodeAttributes) -> InodeAttributes
+    ensures { result ≡ touched_inode_attributes moment.now file.now }
 {
-    Head {
+    InodeAttributes {
         mtime: *moment,
         ctime: *moment,
         ..*file

@@ -8,7 +8,9 @@ ghost use Rattle.procs_files.specs.Heads.{bare};
 
 use base::{LARGEST_FILE, NANOSECONDS, WRITE_RIGHT};
 use nfs_types::{Credential, Ctx, FileKind, Moment, NewAttributes, SetTime, Status};
-use procs_files::{Head, acts_as_owner, has_right, is_own_group, is_superuser, may_write_file};
+use procs_files::{
+    InodeAttributes, acts_as_owner, has_right, is_own_group, is_superuser, may_write_file,
+};
 
 fn is_client(time: &SetTime) -> bool
     ensures { result ≡ is_client time.now }
@@ -37,7 +39,7 @@ fn same_moment(a: &Moment, b: &Moment) -> bool
     a.seconds == b.seconds && a.nanoseconds == b.nanoseconds
 }
 
-fn fails_guard(guard: &Option<Moment>, file: &Head) -> bool
+fn fails_guard(guard: &Option<Moment>, file: &InodeAttributes) -> bool
     ensures { result ≡ fails_guard guard.now (bare file.now) }
 {
     match guard {
@@ -46,7 +48,7 @@ fn fails_guard(guard: &Option<Moment>, file: &Head) -> bool
     }
 }
 
-fn is_invalid(wanted: &NewAttributes, file: &Head) -> bool
+fn is_invalid(wanted: &NewAttributes, file: &InodeAttributes) -> bool
     ensures { result ≡ is_invalid wanted.now (bare file.now) }
 {
     is_no_time(&wanted.atime)
@@ -60,7 +62,7 @@ fn needs_owner(wanted: &NewAttributes) -> bool
     wanted.mode.is_some() || is_client(&wanted.atime) || is_client(&wanted.mtime)
 }
 
-fn gives_user_away(wanted: &NewAttributes, file: &Head) -> bool
+fn gives_user_away(wanted: &NewAttributes, file: &InodeAttributes) -> bool
     ensures { result ≡ given wanted.now.uid (λ uid. not (nat_eq uid file.now.uid)) }
 {
     match wanted.uid {
@@ -69,7 +71,7 @@ fn gives_user_away(wanted: &NewAttributes, file: &Head) -> bool
     }
 }
 
-fn gives_group_away(caller: &Credential, wanted: &NewAttributes, file: &Head) -> bool
+fn gives_group_away(caller: &Credential, wanted: &NewAttributes, file: &InodeAttributes) -> bool
     ensures { result ≡ given wanted.now.gid (λ gid. not (nat_eq gid file.now.gid
         || nat_eq caller.now.uid file.now.uid && is_own_group caller.now gid)) }
 {
@@ -79,20 +81,20 @@ fn gives_group_away(caller: &Credential, wanted: &NewAttributes, file: &Head) ->
     }
 }
 
-fn is_given_away(caller: &Credential, wanted: &NewAttributes, file: &Head) -> bool
+fn is_given_away(caller: &Credential, wanted: &NewAttributes, file: &InodeAttributes) -> bool
     ensures { result ≡ is_given_away caller.now wanted.now (bare file.now) }
 {
     !is_superuser(caller)
         && (gives_user_away(wanted, file) || gives_group_away(caller, wanted, file))
 }
 
-fn is_not_permitted(caller: &Credential, wanted: &NewAttributes, file: &Head) -> bool
+fn is_not_permitted(caller: &Credential, wanted: &NewAttributes, file: &InodeAttributes) -> bool
     ensures { result ≡ is_not_permitted caller.now wanted.now (bare file.now) }
 {
     needs_owner(wanted) && !acts_as_owner(caller, file) || is_given_away(caller, wanted, file)
 }
 
-fn is_no_access(caller: &Credential, wanted: &NewAttributes, file: &Head) -> bool
+fn is_no_access(caller: &Credential, wanted: &NewAttributes, file: &InodeAttributes) -> bool
     ensures { result ≡ is_no_access caller.now wanted.now (bare file.now) }
 {
     (is_server(&wanted.atime) || is_server(&wanted.mtime))
@@ -115,7 +117,7 @@ pub fn set_refusal(
     ctx: &Ctx,
     wanted: &NewAttributes,
     guard: &Option<Moment>,
-    file: &Head,
+    file: &InodeAttributes,
 ) -> Option<Status>
     ensures { result ≡ refusal ctx.now wanted.now guard.now (bare file.now) }
 {

@@ -5,7 +5,7 @@ ghost use Rattle.procs_files.specs.Heads.{bare};
 
 use base::{LARGEST_FILE, TRANSFER_BYTES};
 use nfs_types::{Credential, Ctx, FileKind, Stability, Status, Verifier, Written};
-use procs_files::{Head, may_write_file};
+use procs_files::{InodeAttributes, may_write_file};
 
 fn is_wrong_count(count: u32, text: &[u8]) -> bool
     ensures { result ≡ is_wrong_count count text.now }
@@ -19,7 +19,7 @@ pub(crate) fn write_refusal(
     offset: u64,
     count: u32,
     text: &[u8],
-    file: &Head,
+    file: &InodeAttributes,
 ) -> Option<Status>
     ensures { result ≡ write_refusal caller.now offset count text.now (bare file.now) }
 {

@@ -11,13 +11,13 @@ use Rattle.txn_law.specs.Core.{CoreState}
 use Rattle.txn_law.specs.Fetch.{Fetch}
 use Rattle.txn_law.specs.Holds.{for_fetching, for_reading, for_writing, is_hold_of, is_taken, joined}
 use Rattle.txn_law.specs.Leaves.{Leaves, in_memory, is_fetching, taken_by, with_content, without_fetch}
-use Rattle.txn_law.specs.Records.{is_kept}
-use Rattle.txn_law.specs.Wishes.{IsFetched, IsHeld, IsTaken}
+use Rattle.txn_law.specs.Records.{is_read_by_uninstalled}
+use Rattle.txn_law.specs.LockAnswers.{IsFetched, IsHeld, IsTaken}
 use Rattle.txn_law.specs.declared.hold.Hold.{Hold}
 use Rattle.txn_law.proofs.Again.{same_addr}
 use Rattle.txn_law.proofs.Claims.{all_four, found_by}
 use Rattle.txn_law.proofs.TakenBy.{is_hold_by}
-use Rattle.txn_law.proofs.Tidied.{taken_one}
+use Rattle.txn_law.proofs.StaysWellFormed.{taken_one}
 use Rattle.store.specs.Runs.AtWork.{AreLoadedFor, IsLoadedFor, has_taken}
 use Rattle.store_workers.specs.WorkerSteps.{there_given}
 
@@ -31,8 +31,8 @@ hold_at tx addr hold is =
 
 -- what is taken is a part of its block, and so the block is needed
 is_needed : (core : CoreState) (tx : ℕ) (addr : Addr) → has_taken core tx addr ≡ true
-    → (is_taken core.holds addr.block || is_kept core.records addr.block) ≡ true
-is_needed core tx addr some = ap (λ (b : Bool). b || is_kept core.records addr.block)
+    → (is_taken core.holds addr.block || is_read_by_uninstalled core.records addr.block) ≡ true
+is_needed core tx addr some = ap (λ (b : Bool). b || is_read_by_uninstalled core.records addr.block)
     (by (taken_by core tx addr) refl some)
   where
     by : (found : Option Hold) → taken_by core tx addr ≡ found → is_some found ≡ true

@@ -28,7 +28,7 @@ use Rattle.txn_law.specs.CoreWindow.{IsHomeOf}
 use Rattle.txn_law.specs.Fetch.{Fetch}
 use Rattle.txn_law.specs.Group.{blocks_of}
 use Rattle.txn_law.specs.Object.{ObjectBytes}
-use Rattle.txn_law.specs.Tidy.{AreTidy}
+use Rattle.txn_law.specs.WellFormed.{IsWellFormed}
 use Rattle.store_promise.specs.OpenSince.{IsSoundCore, TellsOf}
 use Rattle.store_promise.specs.Running.{IsFetchOver}
 use Rattle.store_promise.specs.declared.answers.Verdict.TheVariants as verdict
@@ -40,19 +40,19 @@ use Rattle.store.specs.Runs.AtWork.{HasTakenPlace, IsSeenIn, entry_by, fetches_i
 use Rattle.store_workers.specs.Seen.{Seen, seen_of}
 use Rattle.store_workers.specs.Stages.{IsJobIn, IsWorkerAt, StandsAt}
 use Rattle.store_workers.specs.WorkerAnswers.{after_commit, begun_claimed, begun_wanted, committing_of}
-use Rattle.store_workers.specs.WorkerAnswers.{phase_claimed, phase_off, phase_wanted, told_of, with_answer}
+use Rattle.store_workers.specs.WorkerAnswers.{phase_claimed, phase_off, phase_wanted, answered_or_waiting, with_answer}
 use Rattle.store_workers.specs.WorkerAnswers.{with_entry}
-use Rattle.store_workers.specs.WorkerSteps.{GoesOn, HasGivenBack, IsFromHome, IsNext, IsTold}
-use Rattle.store_workers.specs.WorkerSteps.{KeepsHomeOf, Side}
+use Rattle.store_workers.specs.WorkerSteps.{GoesOn, HasGivenBack, IsFromHome, IsNext, IsReplySent}
+use Rattle.store_workers.specs.WorkerSteps.{PreservesHomeOf, WorkerAndCore}
 use Rattle.store_workers.specs.WorkerSteps.{given_step, planned_of}
 use Rattle.store_workers.specs.declared.workers.parts.Job.{Job}
 use Rattle.store_workers.specs.declared.workers.parts.Phase.{Phase}
 use Rattle.objects.specs.declared.addr.Addr.{Addr}
 use Rattle.objects.specs.declared.mode.Mode.{Mode}
 use Rattle.disk.specs.declared.block.BlockNo.{BlockNo}
-use Rattle.store_promise.specs.Aims.{is_barred}
-use Rattle.store_promise.specs.declared.aims.Aim.{Aim}
-use Rattle.store_promise.specs.declared.aims.Aim.TheVariants as aim
+use Rattle.store_promise.specs.LockRequests.{is_barred}
+use Rattle.store_promise.specs.declared.lock_requests.LockRequest.{LockRequest}
+use Rattle.store_promise.specs.declared.lock_requests.LockRequest.TheVariants as lock_request
 use Rattle.store_workers.specs.declared.workers.parts.Phase.TheVariants.{Idle, Called, Planning}
 use Rattle.store_workers.specs.declared.workers.parts.Phase.TheVariants.{Reading, Read}
 use Rattle.store_workers.specs.declared.workers.parts.Phase.TheVariants.{Refused, Again, Waiting}
@@ -60,7 +60,7 @@ use Rattle.store_workers.specs.declared.workers.parts.State.{State}
 
 -- ---- no read is left that isn't given back
 
-module _ (old new : Side) where
+module _ (old new : WorkerAndCore) where
   abbrev NoneLeft : Phase → Option Step → Type 0
   NoneLeft phase made = old.worker.phase ≡ phase → fetches_of new.worker ≡ []
 
@@ -73,8 +73,8 @@ module _ (old new : Side) where
       at old.worker is (ap (λ (p : Phase). fetches_in p old.worker.begun.io) phase_is ∙ none)
 
   -- who is kept off fetches nothing
-  off_none : (wished : Aim) → fetches_in (phase_off wished old.worker.known) None ≡ []
-  off_none wished = by (is_barred wished old.worker.known.taken)
+  off_none : (request : LockRequest) → fetches_in (phase_off request old.worker.known) None ≡ []
+  off_none request = by (is_barred request old.worker.known.taken)
     where
       by : (above : Bool) → fetches_in (if above then Again else Planning) None ≡ []
       by true = refl
@@ -84,21 +84,21 @@ module _ (old new : Side) where
       → fetches_in (phase_wanted addr mode answer old.worker.known) (begun_wanted answer).io ≡ []
   wanted_none addr mode (want.Held back bytes) = refl
   wanted_none addr mode (want.Fetch back io) = refl
-  wanted_none addr mode (want.Busy back) = off_none (aim.Object addr mode)
-  wanted_none addr mode (want.Loading back) = off_none (aim.Object addr mode)
+  wanted_none addr mode (want.Busy back) = off_none (lock_request.Object addr mode)
+  wanted_none addr mode (want.Loading back) = off_none (lock_request.Object addr mode)
   wanted_none addr mode (want.Outside back) = refl
   wanted_none addr mode (want.NoMemory back) = refl
 
   claimed_none : (block : BlockNo) (answer : Claim)
       → fetches_in (phase_claimed block answer old.worker.known) (begun_claimed answer).io ≡ []
   claimed_none block (claim.Held back) = refl
-  claimed_none block (claim.Busy back) = off_none (aim.Claim block)
-  claimed_none block (claim.Loading back) = off_none (aim.Claim block)
+  claimed_none block (claim.Busy back) = off_none (lock_request.Claim block)
+  claimed_none block (claim.Loading back) = off_none (lock_request.Claim block)
   claimed_none block (claim.Outside back) = refl
   claimed_none block (claim.NoMemory back) = refl
 
   placed_none : (job : Job) (reply : Reply) (place : Seq) (base : State) (stable : Bool)
-      → fetches_of (with_entry job reply (told_of stable job reply place base)) ≡ []
+      → fetches_of (with_entry job reply (answered_or_waiting stable job reply place base)) ≡ []
   placed_none job reply place base true = refl
   placed_none job reply place base false = refl
 
@@ -118,28 +118,28 @@ module _ (old new : Side) where
   given_none false io made io_is has phase_is = at _ has.worker refl
 
   waited_none : (place : Seq) (settled broken : Bool) → old.worker.phase ≡ Waiting place
-      → IsTold settled broken place old.worker new.worker → fetches_of new.worker ≡ []
-  waited_none place true broken phase_is told = by old.worker.work.reply told
+      → IsReplySent settled broken place old.worker new.worker → fetches_of new.worker ≡ []
+  waited_none place true broken phase_is reply_sent = by old.worker.work.reply reply_sent
     where
       by : (reply : Option Reply) → IsSomeAnd reply (λ one. new.worker
           ≡ with_answer (verdict.Reply one) (Some place)
           (record old.worker { work = record old.worker.work { reply = None } })) → fetches_of new.worker ≡ []
-      by None told = absurd told
-      by (Some reply) told = at _ told refl
-  waited_none place false true phase_is told = by old.worker.work.broken_reply told
+      by None reply_sent = absurd reply_sent
+      by (Some reply) reply_sent = at _ reply_sent refl
+  waited_none place false true phase_is reply_sent = by old.worker.work.broken_reply reply_sent
     where
       by : (reply : Option Reply) → IsSomeAnd reply (λ one. new.worker
           ≡ with_answer (verdict.Reply one) (Some place)
           (record old.worker { work = record old.worker.work { broken_reply = None } }))
           → fetches_of new.worker ≡ []
-      by None told = absurd told
-      by (Some reply) told = at _ told refl
-  waited_none place false false phase_is told = at_old (Waiting place) told phase_is refl
+      by None reply_sent = absurd reply_sent
+      by (Some reply) reply_sent = at _ reply_sent refl
+  waited_none place false false phase_is reply_sent = at_old (Waiting place) reply_sent phase_is refl
 
   none_cases : Cases old new NoneLeft
   none_cases = record {
-    idle = λ is phase_is. at_old Idle (ap (λ (s : Side). s.worker) is) phase_is refl;
-    reading = λ is phase_is. at_old Reading (ap (λ (s : Side). s.worker) is) phase_is refl;
+    idle = λ is phase_is. at_old Idle (ap (λ (s : WorkerAndCore). s.worker) is) phase_is refl;
+    reading = λ is phase_is. at_old Reading (ap (λ (s : WorkerAndCore). s.worker) is) phase_is refl;
     begun = λ job one job_is served has phase_is. at _ has.worker refl;
     not_begun = λ job why job_is served none core is phase_is. at _ is refl;
     replied = λ job job_is served core is phase_is. at _ is refl;
@@ -151,7 +151,7 @@ module _ (old new : Side) where
     given = given_none;
     refused = λ why job tx made job_is tx_is has phase_is. at _ has.worker refl;
     left = λ tx made tx_is has phase_is. at _ has.worker refl;
-    waited = λ place made has phase_is. waited_none place has.settled old.core.log.broken phase_is has.told;
+    waited = λ place made has phase_is. waited_none place has.settled old.core.log.broken phase_is has.is_reply_sent;
   }
 
   pub none_left : (made : Option Step) → GoesOn old.worker.phase old made new → fetches_of new.worker ≡ []
@@ -159,7 +159,7 @@ module _ (old new : Side) where
 
 -- ---- a place that was taken
 
-module _ (old new : Side) (boot number : ℕ) (entries : List Committed) where
+module _ (old new : WorkerAndCore) (boot number : ℕ) (entries : List Committed) where
   abbrev Takes : Phase → Option Step → Type 0
   Takes phase made = StandsAt boot entries phase old.worker → has_committed made ≡ true
       → HasTakenPlace boot number made old new
@@ -260,11 +260,11 @@ from_home base core (Refused why) io fetched = tt
 from_home base core Again io fetched = tt
 from_home base core (Waiting place) io fetched = tt
 
-pub sound_core : (base : Image) (old new : Side) → KeepsHomeOf old new
+pub sound_core : (base : Image) (old new : WorkerAndCore) → PreservesHomeOf old new
     → All (IsFetchOver base old.core) (fetches_of old.worker) → IsHomeOf base old.core → IsLawful new.core.log
-    → AreTidy new.core → IsSoundCore base new.core
-sound_core base old new keeps fetched home lawful tidy = record {
+    → IsWellFormed new.core → IsSoundCore base new.core
+sound_core base old new preserves fetched home lawful well_formed = record {
   lawful = lawful;
-  tidy = tidy;
-  home = keeps base (from_home base old.core old.worker.phase old.worker.begun.io fetched) home;
+  well_formed = well_formed;
+  home = preserves base (from_home base old.core old.worker.phase old.worker.begun.io fetched) home;
 }

@@ -13,9 +13,9 @@ use Rattle.store.specs.Runs.FormattedRun.{answer_of}
 pub is_answered : (keeps_model : Type 0) (before later : Device) (tree : Tree) (first workers : ℕ)
     (events : Schedule) (answer : Result Run OpenFault)
     → MatchResult answer
-    (λ told. IsPromised keeps_model before later tree first workers events (Ok (report_of told)))
+    (λ run_record. IsPromised keeps_model before later tree first workers events (Ok (report_of run_record)))
     (λ fault. IsPromised keeps_model before later tree first workers events (Err fault))
     → MayRun keeps_model before tree first events
     → ComesOfRun before later tree first workers events (answer_of answer)
-is_answered keeps_model before later tree first workers events (Ok told) promised may = promised may
+is_answered keeps_model before later tree first workers events (Ok run_record) promised may = promised may
 is_answered keeps_model before later tree first workers events (Err fault) promised may = promised may

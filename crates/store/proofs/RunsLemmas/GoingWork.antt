@@ -28,41 +28,41 @@ use Rattle.store_promise.specs.declared.events.Step.TheVariants as step
 use Rattle.store_promise.specs.declared.transcript.Answer.{Answer}
 use Rattle.store_promise.specs.declared.transcript.Committed.{Committed}
 use Rattle.store_promise.specs.declared.transcript.Run.{Run}
-use Rattle.store_promise.specs.Changes.{KeepsOthers}
+use Rattle.store_promise.specs.Changes.{PreservesOthers}
 use Rattle.store_promise.specs.Headline.{StandsAfter}
 use Rattle.store_promise.specs.History.{ctx_of}
 use Rattle.store_promise.specs.OpenSince.{HasFileBlocks, file_blocks}
 use Rattle.store_promise.specs.Progress.{Again, At, Begun, Called, Idle, Job, Planning, Progress, Read, Reading}
 use Rattle.store_promise.specs.Progress.{Refused, Stage, Waiting, is_idle, progressed}
-use Rattle.store_promise.specs.Running.{IsFetchOver, IsMovedBy, IsRunningOver, IsTold, StoreSide, with_blocks}
+use Rattle.store_promise.specs.Running.{IsFetchOver, IsMovedBy, IsRunningOver, IsRunState, StoreState, with_blocks}
 use Rattle.nfs_spec.specs.Model.Calls.{begins_transaction}
 use Rattle.store_promise.specs.Waiting.{AreTakenBy, HasTakenWell}
-use Rattle.store_promise.specs.declared.aims.Aim.{Aim}
-use Rattle.store_promise.proofs.KnownAims.{taken_well}
-use Rattle.store_promise.specs.Schedule.{IsStepBeside, IsStepOfCalled, IsStepOfWork, Setting, Told, told_after}
+use Rattle.store_promise.specs.declared.lock_requests.LockRequest.{LockRequest}
+use Rattle.store_promise.proofs.KnownLockRequests.{taken_well}
+use Rattle.store_promise.specs.Schedule.{IsStepRetakingFirst, IsStepOfCalled, IsStepOfWork, Setting, RunState, state_after}
 use Rattle.store_promise.specs.EventSteps.{IsTaken}
-use Rattle.store_promise.specs.ToldOf.{log_told}
+use Rattle.store_promise.specs.LogStateOf.{log_state_of}
 use Rattle.store_promise.specs.Transcript.{Transcript, calls_device, entries_of, entry_of, transcript_of}
 use Rattle.store_promise.proofs.DeviceCalls.{does_nothing}
-use Rattle.store_law.specs.Runs.Noting.{IsAnswerOf, IsEntryOf, Noted, TellsOfEvent, clock_now}
-use Rattle.store_law.specs.Runs.Noting.{commits, ends, listed, progress_now, told_now, with_noted}
+use Rattle.store_law.specs.Runs.Tracing.{IsAnswerOf, IsEntryOf, Traced, TellsOfEvent, clock_now}
+use Rattle.store_law.specs.Runs.Tracing.{commits, ends, listed, progress_now, state_now, with_traced}
 use Rattle.store_law.specs.Runs.Run.{Beginning, ChangesOwn, ChangesOwnIn, GoesOn, IsRun}
 use Rattle.store.specs.Runs.AtWork.{GoesOnWith, IsAtWork, IsSeenIn, entry_by, fetches_of}
 use Rattle.store.specs.Runs.AtWork.{has_committed, with_core}
-use Rattle.store.specs.Runs.Going.{IsGoing, IsNextEvent, IsSoFar, KeepsCore, NotesStep}
-use Rattle.store_workers.specs.Noting.{NotesAnswers, NotesHistory, NotesProcedure, NotesWork}
+use Rattle.store.specs.Runs.Going.{IsGoing, IsNextEvent, IsAtStage, PreservesCore, TracesStep}
+use Rattle.store_workers.specs.Tracing.{TracesAnswers, TracesHistory, TracesProcedure, TracesWork}
 use Rattle.store_workers.specs.Seen.{Seen, seen_in}
 use Rattle.store_workers.specs.Stages.{IsWorkerAt, claimed_in, held_in, progress_of}
-use Rattle.store_workers.specs.Notes.{committed_by}
-use Rattle.store_workers.specs.Telling.{HasWorked, entries_told, told}
+use Rattle.store_workers.specs.Traces.{committed_by}
+use Rattle.store_workers.specs.RunReports.{HasWorked, entries_traced, reported}
 use Rattle.store_workers.specs.WorkTells.{HasReplies, progress_after}
-use Rattle.store_workers.specs.WorkerSteps.{Side, side}
+use Rattle.store_workers.specs.WorkerSteps.{WorkerAndCore, worker_and_core}
 use Rattle.store_workers.specs.declared.workers.parts.State.{State}
-use Rattle.store.proofs.RunsLemmas.GoingBeside.{is_there}
+use Rattle.store.proofs.RunsLemmas.GoingUncommitted.{is_there}
 use Rattle.store.proofs.RunsLemmas.GoingOn.{goes_on_with, with_fetches}
-use Rattle.store.proofs.RunsLemmas.StayBeside.{AllWillStand, all_stand, others_stay, own_moves}
-use Rattle.store_workers.specs.Beside.{LeavesOthers, Replaces}
-use Rattle.store.proofs.RunsLemmas.OwnChanges.{keeps_others, keeps_unnamed, planned_has}
+use Rattle.store.proofs.RunsLemmas.StayUnaffected.{AllWillStand, all_stand, others_stay, own_moves}
+use Rattle.store_workers.specs.Unaffected.{LeavesOthers, Replaces}
+use Rattle.store.proofs.RunsLemmas.OwnChanges.{preserves_others, preserves_unnamed, planned_has}
 
 -- ---- a step of work is no call of the device
 
@@ -73,8 +73,8 @@ some_calls : (made : Step) (one : Step) → made ≡ one → calls_device (Some 
     → calls_device (Some made) ≡ false
 some_calls made one is none = ap (λ (s : Step). calls_device (Some s)) is ∙ none
 
-module _ (o : Setting) (told : Told) (worker : ℕ) where
-  within : (left : List Aim) (begun : Begun) (made : Step) → IsStepBeside left o told worker begun made
+module _ (o : Setting) (run_state : RunState) (worker : ℕ) where
+  within : (left : List LockRequest) (begun : Begun) (made : Step) → IsStepRetakingFirst left o run_state worker begun made
       → calls_device (Some made) ≡ false
   within [] begun (step.Read block ok) is = absurd is
   within [] begun (step.LogIo ok) is = absurd is
@@ -85,24 +85,24 @@ module _ (o : Setting) (told : Told) (worker : ℕ) where
   within (next ∷ later) begun (step.InstIo ok) is = absurd is
   within (next ∷ later) begun _ is = refl
 
-  by_stage : (job : Job) (stage : Stage) (made : Option Step) → IsStepOfWork o told worker (At job stage) made
+  by_stage : (job : Job) (stage : Stage) (made : Option Step) → IsStepOfWork o run_state worker (At job stage) made
       → calls_device made ≡ false
   by_stage job (Called known) None is = refl
   by_stage job (Called known) (Some (step.Read block ok)) is = by_rules (begins_transaction job.call) is
     where
-      by_rules : (rules : Bool) → IsStepOfCalled told rules (step.Read block ok)
+      by_rules : (rules : Bool) → IsStepOfCalled run_state rules (step.Read block ok)
           → calls_device (Some (step.Read block ok)) ≡ false
       by_rules true is = absurd is
       by_rules false is = cc
   by_stage job (Called known) (Some (step.LogIo ok)) is = by_rules (begins_transaction job.call) is
     where
-      by_rules : (rules : Bool) → IsStepOfCalled told rules (step.LogIo ok)
+      by_rules : (rules : Bool) → IsStepOfCalled run_state rules (step.LogIo ok)
           → calls_device (Some (step.LogIo ok)) ≡ false
       by_rules true is = absurd is
       by_rules false is = cc
   by_stage job (Called known) (Some (step.InstIo ok)) is = by_rules (begins_transaction job.call) is
     where
-      by_rules : (rules : Bool) → IsStepOfCalled told rules (step.InstIo ok)
+      by_rules : (rules : Bool) → IsStepOfCalled run_state rules (step.InstIo ok)
           → calls_device (Some (step.InstIo ok)) ≡ false
       by_rules true is = absurd is
       by_rules false is = cc
@@ -115,15 +115,15 @@ module _ (o : Setting) (told : Told) (worker : ℕ) where
   by_stage job (Read begun taken false) (Some made) is = some_calls made _ is refl
   by_stage job (Refused begun why) None is = refl
   by_stage job (Refused begun why) (Some made) is = some_calls made _ is refl
-  by_stage job (Again begun wished) None is = refl
-  by_stage job (Again begun wished) (Some made) is = some_calls made _ is refl
+  by_stage job (Again begun request) None is = refl
+  by_stage job (Again begun request) (Some made) is = some_calls made _ is refl
   by_stage job (Waiting place) None is = refl
   by_stage job (Waiting place) (Some (step.Read block ok)) is = absurd is
   by_stage job (Waiting place) (Some (step.LogIo ok)) is = absurd is
   by_stage job (Waiting place) (Some (step.InstIo ok)) is = absurd is
   by_stage job (Waiting place) (Some _) is = refl
 
-  pub work_calls_nothing : (progress : Progress) (made : Option Step) → IsStepOfWork o told worker progress made
+  pub work_calls_nothing : (progress : Progress) (made : Option Step) → IsStepOfWork o run_state worker progress made
       → calls_device made ≡ false
   work_calls_nothing Idle made is = none_calls made is
   work_calls_nothing (At job stage) made is = by_stage job stage made is
@@ -131,25 +131,25 @@ module _ (o : Setting) (told : Told) (worker : ℕ) where
 -- ---- what was noted
 
 -- a procedure more, or none
-pub data Noting (boot number clock : ℕ) (progress : Progress) (made : Option Step) (before mid : Run) : Type 0
+pub data Tracing (boot number clock : ℕ) (progress : Progress) (made : Option Step) (before mid : Run) : Type 0
   where
     with_one : (added : List BlockNo) (place : Seq) → made ≡ Some (step.Commit added (committing.Committed place))
-        → NotesProcedure boot number clock progress place.0 before mid
-        → Noting boot number clock progress made before mid
+        → TracesProcedure boot number clock progress place.0 before mid
+        → Tracing boot number clock progress made before mid
     with_none : has_committed made ≡ false → commits made ≡ false → mid.history.items ≡ before.history.items
-        → Noting boot number clock progress made before mid
+        → Tracing boot number clock progress made before mid
 
-pub noting : (boot number clock : ℕ) (progress : Progress) (made : Option Step) (before mid : Run)
-    → NotesHistory boot number clock progress made before mid → Noting boot number clock progress made before mid
-noting boot number clock progress (Some (step.Commit added (committing.Committed place))) before mid is =
+pub tracing : (boot number clock : ℕ) (progress : Progress) (made : Option Step) (before mid : Run)
+    → TracesHistory boot number clock progress made before mid → Tracing boot number clock progress made before mid
+tracing boot number clock progress (Some (step.Commit added (committing.Committed place))) before mid is =
     with_one added place refl is
-noting boot number clock progress (Some (step.Commit added committing.Full)) before mid is = with_none refl refl is
-noting boot number clock progress (Some (step.Commit added committing.Foreign)) before mid is = with_none refl refl is
-noting boot number clock progress (Some (step.Commit added committing.NoMemory)) before mid is = with_none refl refl is
-noting boot number clock progress (Some (step.Commit added committing.Broken)) before mid is = with_none refl refl is
-noting boot number clock progress (Some (step.Commit added committing.Spent)) before mid is = with_none refl refl is
-noting boot number clock progress None before mid is = with_none refl refl is
-noting boot number clock progress (Some _) before mid is = with_none refl refl is
+tracing boot number clock progress (Some (step.Commit added committing.Full)) before mid is = with_none refl refl is
+tracing boot number clock progress (Some (step.Commit added committing.Foreign)) before mid is = with_none refl refl is
+tracing boot number clock progress (Some (step.Commit added committing.NoMemory)) before mid is = with_none refl refl is
+tracing boot number clock progress (Some (step.Commit added committing.Broken)) before mid is = with_none refl refl is
+tracing boot number clock progress (Some (step.Commit added committing.Spent)) before mid is = with_none refl refl is
+tracing boot number clock progress None before mid is = with_none refl refl is
+tracing boot number clock progress (Some _) before mid is = with_none refl refl is
 
 found_entry : (cs : List Committed) (index : ℕ) (e : Entry) → slice_get (map entry_of cs) index ≡ Some e
     → (c : Committed) × (slice_get cs index ≡ Some c) × (c.reply ≡ e.reply)
@@ -171,15 +171,15 @@ both_true false other is = cc
 
 -- ---- the event
 
-module _ (b : Beginning) (number clock : ℕ) (store : StoreSide) (workers all_then : List State) (worker new : State)
+module _ (b : Beginning) (number clock : ℕ) (store : StoreState) (workers all_then : List State) (worker new : State)
     (core : CoreState) (made : Option Step)
     (before mid after : Run) (is_next : IsNextEvent b (event.Work number) before)
     (going : IsGoing b store workers before) (list : Replaces workers number worker new all_then)
     (clock_is : clock ≡ clock_now (transcript_of before))
-    (worked : HasWorked number clock (side worker store.core) made (side new core) before mid)
-    (kept : KeepsCore (side worker store.core) (side new core)) (last_note : NotesStep made mid after)
-    (notes : NotesWork (b.first + 1) number clock (side worker store.core) made (side new core) before mid)
-    (may : IsStepOfWork going.setting (told_now b.events (transcript_of before)) number
+    (worked : HasWorked number clock (worker_and_core worker store.core) made (worker_and_core new core) before mid)
+    (is_preserved : PreservesCore (worker_and_core worker store.core) (worker_and_core new core)) (last_trace : TracesStep made mid after)
+    (traces : TracesWork (b.first + 1) number clock (worker_and_core worker store.core) made (worker_and_core new core) before mid)
+    (may : IsStepOfWork going.setting (state_now b.events (transcript_of before)) number
     (progress_of worker) made) where
   abbrev pub t : Transcript
   t = transcript_of before
@@ -190,14 +190,14 @@ module _ (b : Beginning) (number clock : ℕ) (store : StoreSide) (workers all_t
   abbrev pub boot : ℕ
   boot = b.first + 1
 
-  abbrev pub so : IsSoFar b going.base store.core t number worker
+  abbrev pub so : IsAtStage b going.base store.core t number worker
   so = going.so_far.each number worker list.was
 
-  abbrev pub so_far : Told
-  so_far = told_now b.events t
+  abbrev pub so_far : RunState
+  so_far = state_now b.events t
 
-  abbrev pub then_told : Told
-  then_told = told_after so_far (event.Work number) made
+  abbrev pub state_then : RunState
+  state_then = state_after so_far (event.Work number) made
 
   -- the entry
   pub record EntryPart : Type 0 where
@@ -206,7 +206,7 @@ module _ (b : Beginning) (number clock : ℕ) (store : StoreSide) (workers all_t
     pub is_of : IsEntryOf b.events t (event.Work number) made entry
 
   pub entry_of_one : (added : List BlockNo) (place : Seq) → made ≡ Some (step.Commit added (committing.Committed place))
-      → NotesProcedure boot number clock (progress_of worker) place.0 before mid → EntryPart
+      → TracesProcedure boot number clock (progress_of worker) place.0 before mid → EntryPart
   entry_of_one added place made_is n = record {
     entry = Some n.committed;
     history = n.history;
@@ -225,7 +225,7 @@ module _ (b : Beginning) (number clock : ℕ) (store : StoreSide) (workers all_t
     };
   }
 
-  pub entry_part : Noting boot number clock (progress_of worker) made before mid → EntryPart
+  pub entry_part : Tracing boot number clock (progress_of worker) made before mid → EntryPart
   entry_part (with_one added place made_is n) = entry_of_one added place made_is n
   entry_part (with_none uncommitted no_commit same) = record {
     entry = None;
@@ -234,22 +234,22 @@ module _ (b : Beginning) (number clock : ℕ) (store : StoreSide) (workers all_t
   }
 
   abbrev pub e : EntryPart
-  e = entry_part (noting boot number clock (progress_of worker) made before mid notes.history)
+  e = entry_part (tracing boot number clock (progress_of worker) made before mid traces.history)
 
   -- how far the worker is then
   broken_is : so_far.log.broken ≡ store.core.log.broken
-  broken_is = ap (λ log. log.broken) going.run.told.log
+  broken_is = ap (λ log. log.broken) going.run.is_run_state.log
 
   progress_by : (m : Option Step) → progress_of new ≡ progress_after store.core.log.broken m
       (progress_of worker)
-      → (told_after so_far (event.Work number) m).workers number ≡ progress_of new
+      → (state_after so_far (event.Work number) m).workers number ≡ progress_of new
   progress_by None is = so.progress ∙ sym is
   progress_by (Some one) is = own_moves so_far.workers number _
       ∙ ap (λ (p : Progress). progressed so_far.log.broken one p) so.progress
       ∙ ap (λ (t : Bool). progressed t one (progress_of worker)) broken_is ∙ sym is
 
-  pub progress_then : then_told.workers number ≡ progress_of new
-  progress_then = progress_by made notes.progress
+  pub progress_then : state_then.workers number ≡ progress_of new
+  progress_then = progress_by made traces.progress
 
   -- the answer
   abbrev ends_now : Bool
@@ -265,7 +265,7 @@ module _ (b : Beginning) (number clock : ℕ) (store : StoreSide) (workers all_t
         → IsAnswerOf b.events t other (event.Work number) made answer
 
   pub answer_part : (now : Bool) → ends_now ≡ now
-      → NotesAnswers now number clock (progress_of worker) made before mid → AnswerPart
+      → TracesAnswers now number clock (progress_of worker) made before mid → AnswerPart
   answer_part true is n = record {
     answer = Some n.answer;
     answers = n.answers;
@@ -276,7 +276,7 @@ module _ (b : Beginning) (number clock : ℕ) (store : StoreSide) (workers all_t
       so_far = ap (λ (w : ℕ). progress_now b.events t w) n.worker ∙ so.progress ∙ n.so_far;
       step = n.step;
       made_is = n.made_is;
-      ends = ap (λ (w : ℕ). is_idle (then_told.workers w)) n.worker ∙ ap is_idle progress_then
+      ends = ap (λ (w : ℕ). is_idle (state_then.workers w)) n.worker ∙ ap is_idle progress_then
           ∙ both_true (not (is_idle (progress_of worker))) (is_idle (progress_of new)) is;
       verdict = n.verdict other replies;
       event = n.event;
@@ -290,26 +290,26 @@ module _ (b : Beginning) (number clock : ℕ) (store : StoreSide) (workers all_t
   }
 
   abbrev pub a : AnswerPart
-  a = answer_part ends_now refl notes.answers
+  a = answer_part ends_now refl traces.answers
 
-  abbrev pub noted : Noted
-  noted = record { entry = e.entry; answer = a.answer; made = made }
+  abbrev pub traced : Traced
+  traced = record { entry = e.entry; answer = a.answer; made = made }
 
-  pub same : transcript_of after ≡ with_noted t noted
+  pub same : transcript_of after ≡ with_traced t traced
   same = λ i. record {
-    boot = (last_note.boot ∙ notes.boot_is) i;
-    history = (last_note.history ∙ e.history) i;
-    answers = (last_note.answers ∙ a.answers) i;
-    steps = (last_note.steps ∙ ap (λ steps. steps.items ++ made ∷ []) notes.steps) i;
+    boot = (last_trace.boot ∙ traces.boot_is) i;
+    history = (last_trace.history ∙ e.history) i;
+    answers = (last_trace.answers ∙ a.answers) i;
+    steps = (last_trace.steps ∙ ap (λ steps. steps.items ++ made ∷ []) traces.steps) i;
   }
 
-  pub entries_are : entries_of (with_noted t noted) ≡ entries_of (transcript_of mid)
+  pub entries_are : entries_of (with_traced t traced) ≡ entries_of (transcript_of mid)
   entries_are = ap (map entry_of) (sym e.history)
 
-  tells : TellsOfEvent b.events t (event.Work number) noted
+  tells : TellsOfEvent b.events t (event.Work number) traced
   tells = record {
     entry = e.is_of;
-    answer = a.is_of (with_noted t noted) (has_replies (with_noted t noted) mid.history.items (sym e.history));
+    answer = a.is_of (with_traced t traced) (has_replies (with_traced t traced) mid.history.items (sym e.history));
   }
 
   taken : IsTaken o b.workers so_far (event.Work number) made
@@ -320,7 +320,7 @@ module _ (b : Beginning) (number clock : ℕ) (store : StoreSide) (workers all_t
   }
 
   -- ---- the run with it
-  abbrev then_store : StoreSide
+  abbrev then_store : StoreState
   then_store = with_core store core
 
   pub record Left (entry : Option Committed) : Type 0 where
@@ -335,14 +335,14 @@ module _ (b : Beginning) (number clock : ℕ) (store : StoreSide) (workers all_t
         (later.blocks place)
     pub changes : ChangesOwnIn b.opened.size b.events t later.blocks made entry
 
-  module _ (left : Left e.entry) (told_then : IsTold o then_told then_store)
+  module _ (left : Left e.entry) (state_agrees_then : IsRunState o state_then then_store)
       (moved : calls_device made ≡ false → IsMovedBy store.device made store.device) where
-    pub goes : GoesOn b o t store noted left.later going.base then_store [] left.next
+    pub goes : GoesOn b o t store traced left.later going.base then_store [] left.next
     goes = record {
       event = event.Work number;
       next = is_next.next;
       taken = taken;
-      notes = tells;
+      traces = tells;
       device = moved (work_calls_nothing o so_far number (progress_of worker) made may);
       does = does_nothing so_far.log.log_call so_far.log.inst_call made (current store.device)
           (current store.device) (work_calls_nothing o so_far number (progress_of worker) made may)
@@ -351,11 +351,11 @@ module _ (b : Beginning) (number clock : ℕ) (store : StoreSide) (workers all_t
       blocks = left.blocks;
       running = subst (λ (es : List Entry). IsRunningOver left.later going.base then_store []
           boot b.tree es left.next) (sym entries_are) left.running;
-      told = record {
-        log = told_then.log
-            ∙ ap (λ (s : Setting). log_told s.position core.log store.logging store.installing)
+      is_run_state = record {
+        log = state_agrees_then.log
+            ∙ ap (λ (s : Setting). log_state_of s.position core.log store.logging store.installing)
             (sym left.setting);
-        begun = told_then.begun;
+        begun = state_agrees_then.begun;
       };
       leads = subst (λ (es : List Entry). leads_to b.tree es left.next) (sym entries_are) left.leads;
       files = λ place. subst (λ (es : List Entry). StandsAfter left.later.geometry b.tree (take place es)
@@ -363,40 +363,40 @@ module _ (b : Beginning) (number clock : ℕ) (store : StoreSide) (workers all_t
       changes = left.changes;
     }
 
-    pub goes_on : IsRun b left.later (with_noted t noted) going.base then_store [] left.next
-        → told_now b.events (with_noted t noted) ≡ then_told
-        → AllWillStand b going.base core t (event.Work number) noted all_then → IsGoing b then_store all_then after
-    goes_on run told_is stand = goes_on_with b left.later going.base left.next then_store all_then
-        before after noted (event.Work number) same run told_is stand
+    pub goes_on : IsRun b left.later (with_traced t traced) going.base then_store [] left.next
+        → state_now b.events (with_traced t traced) ≡ state_then
+        → AllWillStand b going.base core t (event.Work number) traced all_then → IsGoing b then_store all_then after
+    goes_on run is_state_then stand = goes_on_with b left.later going.base left.next then_store all_then
+        before after traced (event.Work number) same run is_state_then stand
 
   -- the others
   others_then : (m : Option Step) (other : ℕ) → (other ≡ number → ⊥)
-      → (told_after so_far (event.Work number) m).workers other ≡ so_far.workers other
+      → (state_after so_far (event.Work number) m).workers other ≡ so_far.workers other
   others_then None other differs = refl
   others_then (Some one) other differs = others_stay so_far.workers number other _ differs
 
   -- and all workers, where this one is at work on the core, and fetches nothing
-  pub stand : LeavesOthers (side worker store.core) (side new core) → core.log.blocks ≡ store.core.log.blocks
+  pub stand : LeavesOthers (worker_and_core worker store.core) (worker_and_core new core) → core.log.blocks ≡ store.core.log.blocks
       → core.inodes ≡ store.core.inodes → IsAtWork new core → All (IsFetchOver going.base core) (fetches_of new)
-      → AllWillStand b going.base core t (event.Work number) noted all_then
+      → AllWillStand b going.base core t (event.Work number) traced all_then
   stand left blocks inodes at_work fetched =
-      all_stand b going.base (side worker store.core) (side new core) t (event.Work number) noted number workers all_then
+      all_stand b going.base (worker_and_core worker store.core) (worker_and_core new core) t (event.Work number) traced number workers all_then
       going.so_far list left blocks inodes (others_then made) (record {
-        stands = subst (λ (es : List Entry). IsWorkerAt boot es new) (sym entries_are) notes.stands;
+        stands = subst (λ (es : List Entry). IsWorkerAt boot es new) (sym entries_are) traces.stands;
         at_work = at_work;
         progress = progress_then;
         fetched = fetched;
       })
 
   -- ---- what it leaves, with a place and without
-  module _ (state_is : new ≡ told worked.state) where
-    abbrev step_to : Side
-    step_to = side worked.state core
+  module _ (state_is : new ≡ reported worked.state) where
+    abbrev step_to : WorkerAndCore
+    step_to = worker_and_core worked.state core
 
-    beside : has_committed made ≡ false → mid.history.items ≡ before.history.items
+    log_unchanged : has_committed made ≡ false → mid.history.items ≡ before.history.items
         → IsRunningOver o going.base then_store [] boot b.tree (entries_of t)
         going.last → Left None
-    beside uncommitted history running = record {
+    log_unchanged uncommitted history running = record {
       later = o;
       next = going.last;
       setting = refl;
@@ -411,7 +411,7 @@ module _ (b : Beginning) (number clock : ℕ) (store : StoreSide) (workers all_t
     }
 
     module _ (goes_with : GoesOnWith o going.base store step_to boot number b.tree (entries_of t) going.last
-        made (side worker store.core))
+        made (worker_and_core worker store.core))
         (has_files : HasFileBlocks going.base core goes_with.left)
         (one_geometry : (g h : Geometry) → g.version ≡ h.version → g.blocks ≡ h.blocks → g.inodes ≡ h.inodes → g ≡ h)
         (before_it : o.blocks (length t.history) ≡ file_blocks going.base store.core) where
@@ -425,14 +425,14 @@ module _ (b : Beginning) (number clock : ℕ) (store : StoreSide) (workers all_t
       then_set = with_blocks o (length (entries_of t)) now
 
       history_is : mid.history.items ≡ before.history.items
-          ++ entries_told number (length before.steps.items) clock (Some goes_with.taken.entry)
+          ++ entries_traced number (length before.steps.items) clock (Some goes_with.taken.entry)
       history_is = worked.tells.history
-          ∙ ap (λ ready. before.history.items ++ entries_told number (length before.steps.items) clock ready)
+          ∙ ap (λ ready. before.history.items ++ entries_traced number (length before.steps.items) clock ready)
           (ap (λ m. committed_by m worked.state) goes_with.taken.named ∙ goes_with.taken.ready)
 
       entries_then : entries_of (transcript_of mid) ≡ entries_of t ++ entry ∷ []
       entries_then = ap (map entry_of) history_is ∙ map-append entry_of before.history.items
-          (entries_told number (length before.steps.items) clock (Some goes_with.taken.entry))
+          (entries_traced number (length before.steps.items) clock (Some goes_with.taken.entry))
 
       early : (place : ℕ) → place ≤ length (entries_of t) → then_set.blocks place ≡ o.blocks place
       early place few = ap (λ (t : Bool). if t then o.blocks place else now)
@@ -481,16 +481,16 @@ module _ (b : Beginning) (number clock : ℕ) (store : StoreSide) (workers all_t
       others : (j : Job) (begun : Begun) → progress_of worker ≡ At j (Planning begun) → (seen : Option Seen)
           → seen_in worker.work.planner ≡ seen → IsSomeAnd seen
           (λ seen. All (IsSeenIn seen) goes_with.taken.plan.written)
-          → KeepsOthers b.opened.size begun (file_blocks going.base store.core) now
+          → PreservesOthers b.opened.size begun (file_blocks going.base store.core) now
       others j begun planned None is own = absurd own
       others j begun planned (Some seen) is own =
           let has = planned_has worker j begun planned in
           let had = going.run.files (length t.history) in
           let had_well : AreTakenBy o.geometry begun = subst (HasTakenWell o.geometry) (so.progress ∙ planned)
           (taken_well o b.workers b.events t.steps going.run.well.taken (length t.steps) number) in
-          subst (λ (image : Image). KeepsOthers b.opened.size begun (file_blocks going.base store.core) image)
+          subst (λ (image : Image). PreservesOthers b.opened.size begun (file_blocks going.base store.core) image)
           (sym goes_with.writes)
-          (keeps_others o.geometry b.opened.size begun seen (file_blocks going.base store.core)
+          (preserves_others o.geometry b.opened.size begun seen (file_blocks going.base store.core)
           goes_with.taken.plan.written had_well
           (has.0 ∙ ap held_in is) (has.1 ∙ ap claimed_in is) own goes_with.taken.took.group.sizes
           (λ block within. subst (λ (image : Image). length (image block) ≡ BLOCK_BYTES) before_it
@@ -506,16 +506,16 @@ module _ (b : Beginning) (number clock : ℕ) (store : StoreSide) (workers all_t
         named = blocks_of goes_with.taken.plan.written;
         made_is = goes_with.taken.named ∙ ap (λ (at : ℕ). Some (step.Commit (blocks_of goes_with.taken.plan.written)
             (committing.Committed (record { 0 = at })))) (goes_with.next ∙ ap (λ (n : ℕ). n + 1) counted);
-        others = subst (λ (next : Image). KeepsOthers b.opened.size begun
+        others = subst (λ (next : Image). PreservesOthers b.opened.size begun
             (then_set.blocks (length t.history)) next)
             (sym (late (length t.history + 1) (let same = counted in omega (arith, same))))
-            (subst (λ (here : Image). KeepsOthers b.opened.size begun here now)
+            (subst (λ (here : Image). PreservesOthers b.opened.size begun here now)
             (sym (early (length t.history) (let same = counted in omega (arith, same)) ∙ before_it))
             (others j begun planned (seen_in worker.work.planner) refl goes_with.taken.own));
         unnamed = λ block within lacks.
             ap (λ (image : Image). image block.0)
             (late (length t.history + 1) (let same = counted in omega (arith, same)) ∙ goes_with.writes)
-            ∙ keeps_unnamed b.opened.size (file_blocks going.base store.core) goes_with.taken.plan.written block within
+            ∙ preserves_unnamed b.opened.size (file_blocks going.base store.core) goes_with.taken.plan.written block within
             lacks
             ∙ sym (ap (λ (image : Image). image block.0)
             (early (length t.history) (let same = counted in omega (arith, same)) ∙ before_it));
@@ -545,14 +545,14 @@ module _ (b : Beginning) (number clock : ℕ) (store : StoreSide) (workers all_t
         → IsRunningOver o going.base then_store [] boot b.tree (entries_of t) going.last)
         → (has_committed made ≡ true →
         (goes : GoesOnWith o going.base store step_to boot number b.tree (entries_of t) going.last
-        made (side worker store.core)) × HasFileBlocks going.base core goes.left)
+        made (worker_and_core worker store.core)) × HasFileBlocks going.base core goes.left)
         → ((g h : Geometry) → g.version ≡ h.version → g.blocks ≡ h.blocks → g.inodes ≡ h.inodes → g ≡ h)
         → o.blocks (length t.history) ≡ file_blocks going.base store.core
-        → (n : Noting boot number clock (progress_of worker) made before mid) → Left (entry_part n).entry
+        → (n : Tracing boot number clock (progress_of worker) made before mid) → Left (entry_part n).entry
     unfolding entry_part entry_of_one
     left_by still took one_geometry before_it (with_one added place made_is n) =
         let goes = took (ap has_committed made_is) in
         committed goes.0 goes.1 one_geometry before_it n.committed
         (changes goes.0 goes.1 one_geometry before_it n.committed n.job n.begun n.worker n.planned)
     left_by still took one_geometry before_it (with_none uncommitted no_commit same) =
-        beside uncommitted same (still uncommitted)
+        log_unchanged uncommitted same (still uncommitted)

@@ -15,21 +15,21 @@ use Rattle.objects.specs.declared.mode.Mode.TheVariants as modes
 use Rattle.txn.proofs.OwnChange.{taken_at}
 use Rattle.txn_law.specs.Core.{CoreState}
 use Rattle.txn_law.specs.Fetch.{Fetch}
-use Rattle.txn_law.specs.Holds.{IsFree, IsHoldOf, KeepsOff, is_hold_of}
+use Rattle.txn_law.specs.Holds.{IsFree, IsHoldOf, ConflictsWith, is_hold_of}
 use Rattle.txn_law.specs.Leaves.{in_memory, is_fetching, taken_by}
-use Rattle.txn_law.specs.Tidy.{AreTidy}
-use Rattle.txn_law.specs.Wishes.{IsOpen, IsWhole}
+use Rattle.txn_law.specs.WellFormed.{IsWellFormed}
+use Rattle.txn_law.specs.LockAnswers.{IsOpen, IsWhole}
 use Rattle.txn_law.specs.declared.hold.Hold.{Hold}
 use Rattle.txn_law.proofs.Claims.{all_four, found_by}
 use Rattle.store_promise.specs.Progress as how
-use Rattle.store_promise.specs.Progress.{Begun, Progress, Stage, Wished, aim_keeps_off, has_loaded, has_taken}
+use Rattle.store_promise.specs.Progress.{Begun, Progress, Stage, RangeRequest, lock_request_conflicts, has_loaded, has_taken}
 use Rattle.store_promise.specs.Progress.{is_fetching as fetches, is_object_in, shares, stage_takes, takes}
-use Rattle.store_promise.specs.Schedule.{IsLeftFree, IsSoOfNoOther, Told, wish_of}
-use Rattle.store_promise.specs.declared.aims.Aim.{Aim}
-use Rattle.store_promise.specs.declared.aims.Aim.TheVariants as aim
+use Rattle.store_promise.specs.Schedule.{IsLeftFree, IsSoOfNoOther, RunState, range_request_at}
+use Rattle.store_promise.specs.declared.lock_requests.LockRequest.{LockRequest}
+use Rattle.store_promise.specs.declared.lock_requests.LockRequest.TheVariants as lock_request
 use Rattle.store.specs.Runs.AtWork as at_work
-use Rattle.store.specs.Runs.AtWork.{FetchesFor, IsAimLoaded, IsAtWork, LoadsFor}
-use Rattle.store_workers.specs.Beside.{IsFetchAt, IsOneOf, IsTakenAs, IsTakenIn, NotesTaken, ShareCore}
+use Rattle.store.specs.Runs.AtWork.{FetchesFor, IsLockRequestLoaded, IsAtWork, LoadsFor}
+use Rattle.store_workers.specs.Unaffected.{IsFetchAt, IsOneOf, IsTakenAs, IsTakenIn, TracesTaken, ShareCore}
 use Rattle.store_workers.specs.Knowing.{known_in}
 use Rattle.store_workers.specs.Phases.{has_transaction}
 use Rattle.store_workers.specs.Seen.{seen_in}
@@ -70,13 +70,13 @@ one_block : (one other : BlockNo) → one.0 ≡ other.0 → one ≡ other
 one_block one other same = let block_of : ℕ → BlockNo = λ number. record { 0 = number } in ap block_of same
 
 -- what shares a byte
-shared_by : (addr other : Addr) (mode : Mode) → shares (wish_of addr mode) other ≡ true → Overlap other addr
+shared_by : (addr other : Addr) (mode : Mode) → shares (range_request_at addr mode) other ≡ true → Overlap other addr
 shared_by addr other mode so =
-    let (front, last) = and_parts
+    let (leading, last) = and_parts
     (nat_eq other.block.0 addr.block.0 && nat_lt other.offset (addr.offset + addr.len))
     (nat_lt addr.offset (other.offset + other.len)) so in
     let (same, first) = and_parts (nat_eq other.block.0 addr.block.0)
-    (nat_lt other.offset (addr.offset + addr.len)) front in (
+    (nat_lt other.offset (addr.offset + addr.len)) leading in (
       one_block other.block addr.block (eqb-true other.block.0 addr.block.0 same),
       ltb-true other.offset (addr.offset + addr.len) first,
       ltb-true addr.offset (other.offset + other.len) last,
@@ -99,36 +99,36 @@ module _ (w : State) where
   mine = begun_of w.begun.tx (seen_in w.work.planner) w.known
 
   -- what it is told to have taken it has noted, in a transaction
-  module _ (wished : Wished) where
-    of_stage : (job : Option Job) (stage : Stage) → has_taken wished (at_stage job stage) ≡ true
-        → stage_takes wished stage ≡ true
+  module _ (request : RangeRequest) where
+    of_stage : (job : Option Job) (stage : Stage) → has_taken request (at_stage job stage) ≡ true
+        → stage_takes request stage ≡ true
     of_stage None stage so = absurd (true≢false (sym so))
     of_stage (Some job) stage so = so
 
     of_fetch : (stage : how.Taken → Stage)
-        → ((taken : how.Taken) → stage_takes wished (stage taken) ≡ takes wished mine) → (mode : Mode) (wish : Option Addr)
-        → stage_takes wished (at_fetch stage mine mode wish) ≡ true → takes wished mine ≡ true
+        → ((taken : how.Taken) → stage_takes request (stage taken) ≡ takes request mine) → (mode : Mode) (fetch_addr : Option Addr)
+        → stage_takes request (at_fetch stage mine mode fetch_addr) ≡ true → takes request mine ≡ true
     of_fetch stage same mode None so = so
     of_fetch stage same mode (Some addr) so = sym (same (taken_as mode addr)) ∙ so
 
-    noted_in : (phase : Phase) → has_taken wished (progress_in phase w.work.job mine w.asked w.known) ≡ true
-        → (has_transaction phase ≡ true) × (takes wished mine ≡ true)
-    noted_in Idle so = absurd (true≢false (sym so))
-    noted_in Called so = absurd (true≢false (sym (of_stage w.work.job (how.Called (known_in w.known)) so)))
-    noted_in Planning so = (refl, of_stage w.work.job (how.Planning mine) so)
-    noted_in Reading so = (
+    traced_in : (phase : Phase) → has_taken request (progress_in phase w.work.job mine w.asked w.known) ≡ true
+        → (has_transaction phase ≡ true) × (takes request mine ≡ true)
+    traced_in Idle so = absurd (true≢false (sym so))
+    traced_in Called so = absurd (true≢false (sym (of_stage w.work.job (how.Called (known_in w.known)) so)))
+    traced_in Planning so = (refl, of_stage w.work.job (how.Planning mine) so)
+    traced_in Reading so = (
       refl,
-      of_fetch (λ taken. how.Reading mine taken) (λ taken. refl) w.asked.mode w.asked.wish
-          (of_stage w.work.job (at_fetch (λ taken. how.Reading mine taken) mine w.asked.mode w.asked.wish) so),
+      of_fetch (λ taken. how.Reading mine taken) (λ taken. refl) w.asked.mode w.asked.fetch_addr
+          (of_stage w.work.job (at_fetch (λ taken. how.Reading mine taken) mine w.asked.mode w.asked.fetch_addr) so),
     )
-    noted_in (Read ok) so = (
+    traced_in (Read ok) so = (
       refl,
-      of_fetch (λ taken. how.Read mine taken ok) (λ taken. refl) w.asked.mode w.asked.wish
-          (of_stage w.work.job (at_fetch (λ taken. how.Read mine taken ok) mine w.asked.mode w.asked.wish) so),
+      of_fetch (λ taken. how.Read mine taken ok) (λ taken. refl) w.asked.mode w.asked.fetch_addr
+          (of_stage w.work.job (at_fetch (λ taken. how.Read mine taken ok) mine w.asked.mode w.asked.fetch_addr) so),
     )
-    noted_in (Refused why) so = (refl, of_stage w.work.job (how.Refused mine why) so)
-    noted_in Again so = (refl, of_stage w.work.job (how.Again mine w.known.off) so)
-    noted_in (Waiting place) so =
+    traced_in (Refused why) so = (refl, of_stage w.work.job (how.Refused mine why) so)
+    traced_in Again so = (refl, of_stage w.work.job (how.Again mine w.known.off) so)
+    traced_in (Waiting place) so =
         absurd (true≢false (sym (of_stage w.asked.waiting (how.Waiting place.0) so)))
 
   -- what isn't so of a stage isn't so of who is there
@@ -142,19 +142,19 @@ module _ (w : State) where
     fetch_at : (stage : how.Taken → Stage)
         → ((j : how.Job) (taken : how.Taken) → fetches block (how.At j (stage taken))
         ≡ nat_eq taken.addr.block.0 block.0) → IsFetchOf w
-        → fetches block (at_stage w.work.job (at_fetch stage mine w.asked.mode w.asked.wish)) ≡ true
+        → fetches block (at_stage w.work.job (at_fetch stage mine w.asked.mode w.asked.fetch_addr)) ≡ true
         → IsFetchAt block w.begun.io
-    fetch_at stage tells has = by w.work.job w.asked.wish has
+    fetch_at stage tells has = by w.work.job w.asked.fetch_addr has
       where
         same_at : (addr : Addr) (io : Option Fetch) → IsSomeAnd io (λ (io : Fetch). io.block ≡ addr.block)
             → addr.block ≡ block → IsFetchAt block io
         same_at addr None at same = absurd at
         same_at addr (Some io) at same = at ∙ same
 
-        by : (job : Option Job) (wish : Option Addr)
-            → IsSomeAnd wish (λ addr. IsSomeAnd w.begun.io (λ (io : Fetch). io.block ≡ addr.block))
-            → fetches block (at_stage job (at_fetch stage mine w.asked.mode wish)) ≡ true → IsFetchAt block w.begun.io
-        by None wish at so = absurd (true≢false (sym so))
+        by : (job : Option Job) (fetch_addr : Option Addr)
+            → IsSomeAnd fetch_addr (λ addr. IsSomeAnd w.begun.io (λ (io : Fetch). io.block ≡ addr.block))
+            → fetches block (at_stage job (at_fetch stage mine w.asked.mode fetch_addr)) ≡ true → IsFetchAt block w.begun.io
+        by None fetch_addr at so = absurd (true≢false (sym so))
         by (Some job) None at so = absurd at
         by (Some job) (Some addr) at so =
             same_at addr w.begun.io at (one_block addr.block block (eqb-true addr.block.0 block.0
@@ -179,39 +179,39 @@ module _ (w : State) where
 
   -- and of a block that isn't in memory it is told to have no object, while it goes by its plan
   module _ (block : BlockNo) (core : CoreState) (absent : in_memory core block ≡ None) where
-    not_loaded : (tx : ℕ) (one : Aim) → IsAimLoaded core tx one → is_object_in block one ≡ true → ⊥
-    not_loaded tx (aim.Object addr mode) is same =
+    not_loaded : (tx : ℕ) (one : LockRequest) → IsLockRequestLoaded core tx one → is_object_in block one ≡ true → ⊥
+    not_loaded tx (lock_request.Object addr mode) is same =
         let none : Some is.content ≡ None = sym is.there
         ∙ ap (λ (b : BlockNo). in_memory core b) (one_block addr.block block (eqb-true addr.block.0 block.0 same))
         ∙ absent in
         cc
-    not_loaded tx (aim.Claim claimed) is same = true≢false (sym same)
+    not_loaded tx (lock_request.Claim claimed) is same = true≢false (sym same)
 
     of_plan : (job : Option Job) → has_loaded block (at_stage job (how.Planning mine)) ≡ true
         → list_any (is_object_in block) w.known.taken ≡ true
     of_plan None so = absurd (true≢false (sym so))
     of_plan (Some job) so = so
 
-    none_loaded : (found : Option ℕ) → IsSomeAnd found (λ number. All (IsAimLoaded core number) w.known.taken)
+    none_loaded : (found : Option ℕ) → IsSomeAnd found (λ number. All (IsLockRequestLoaded core number) w.known.taken)
         → list_any (is_object_in block) w.known.taken ≡ true → ⊥
     none_loaded None loads so = loads
     none_loaded (Some tx) loads so =
-        let (one, is, same) = found_any (is_object_in block) (IsAimLoaded core tx) w.known.taken loads so in
+        let (one, is, same) = found_any (is_object_in block) (IsLockRequestLoaded core tx) w.known.taken loads so in
         not_loaded tx one is same
 
-    is_there : (P : Addr → Type 0) (wish : Option Addr) → IsSomeAnd wish P → is_some wish ≡ true
+    is_there : (P : Addr → Type 0) (fetch_addr : Option Addr) → IsSomeAnd fetch_addr P → is_some fetch_addr ≡ true
     is_there P None has = absurd has
     is_there P (Some addr) has = refl
 
-    is_wished : (found : Option ℕ) → FetchesFor found w.asked w.known core → is_some w.asked.wish ≡ true
-    is_wished None loads = absurd loads
-    is_wished (Some tx) loads =
-        is_there (λ addr. at_work.has_taken core tx addr ≡ true) w.asked.wish loads.1
+    has_fetch_addr : (found : Option ℕ) → FetchesFor found w.asked w.known core → is_some w.asked.fetch_addr ≡ true
+    has_fetch_addr None loads = absurd loads
+    has_fetch_addr (Some tx) loads =
+        is_there (λ addr. at_work.has_taken core tx addr ≡ true) w.asked.fetch_addr loads.1
 
     of_fetching : (stage : how.Taken → Stage)
         → ((j : how.Job) (taken : how.Taken) → has_loaded block (how.At j (stage taken)) ≡ false)
-        → (wish : Option Addr) → is_some wish ≡ true
-        → has_loaded block (at_stage w.work.job (at_fetch stage mine w.asked.mode wish)) ≡ true → ⊥
+        → (fetch_addr : Option Addr) → is_some fetch_addr ≡ true
+        → has_loaded block (at_stage w.work.job (at_fetch stage mine w.asked.mode fetch_addr)) ≡ true → ⊥
     of_fetching stage never None there so = true≢false (sym there)
     of_fetching stage never (Some addr) there so =
         not_at (has_loaded block) refl w.work.job (stage (taken_as w.asked.mode addr))
@@ -223,10 +223,10 @@ module _ (w : State) where
     loaded_in Called loads so =
         not_at (has_loaded block) refl w.work.job (how.Called (known_in w.known)) (λ j. refl) so
     loaded_in Planning loads so = none_loaded w.begun.tx loads (of_plan w.work.job so)
-    loaded_in Reading loads so = of_fetching (λ taken. how.Reading mine taken) (λ j taken. refl) w.asked.wish
-        (is_wished w.begun.tx loads) so
-    loaded_in (Read ok) loads so = of_fetching (λ taken. how.Read mine taken ok) (λ j taken. refl) w.asked.wish
-        (is_wished w.begun.tx loads) so
+    loaded_in Reading loads so = of_fetching (λ taken. how.Reading mine taken) (λ j taken. refl) w.asked.fetch_addr
+        (has_fetch_addr w.begun.tx loads) so
+    loaded_in (Read ok) loads so = of_fetching (λ taken. how.Read mine taken ok) (λ j taken. refl) w.asked.fetch_addr
+        (has_fetch_addr w.begun.tx loads) so
     loaded_in (Refused why) loads so =
         not_at (has_loaded block) refl w.work.job (how.Refused mine why) (λ j. refl) so
     loaded_in Again loads so =
@@ -236,7 +236,7 @@ module _ (w : State) where
 
 -- ---- what the others leave free
 
--- what is taken in a mode that covers one which keeps a wish off keeps it off
+-- what is taken in a mode that covers one which keeps a lock request off keeps it off
 excluded : (held had mode : Mode) → covers held had ≡ true → (is_exclusive had || is_exclusive mode) ≡ true
     → Excludes held mode
 excluded modes.Exclusive had mode much off = inl refl
@@ -244,14 +244,14 @@ excluded modes.Shared modes.Exclusive mode much off = absurd (true≢false (sym 
 excluded modes.Shared modes.Shared modes.Exclusive much off = inr refl
 excluded modes.Shared modes.Shared modes.Shared much off = absurd (true≢false (sym off))
 
-module _ (boot : ℕ) (entries : List Entry) (told : Told) (core : CoreState) (workers : List State) (number : ℕ)
-    (worker : State) (tidy : AreTidy core) (share : ShareCore core workers) (is : IsOneOf workers number worker)
+module _ (boot : ℕ) (entries : List Entry) (run_state : RunState) (core : CoreState) (workers : List State) (number : ℕ)
+    (worker : State) (well_formed : IsWellFormed core) (share : ShareCore core workers) (is : IsOneOf workers number worker)
     (each : (other : ℕ) (w : State) → IsOneOf workers other w
-    → (told.workers other ≡ progress_of w) × IsWorkerAt boot entries w × IsAtWork w core)
-    (beyond : (other : ℕ) → slice_get workers other ≡ None → told.workers other ≡ how.Idle)
+    → (run_state.workers other ≡ progress_of w) × IsWorkerAt boot entries w × IsAtWork w core)
+    (beyond : (other : ℕ) → slice_get workers other ≡ None → run_state.workers other ≡ how.Idle)
     (tx : ℕ) (tx_is : worker.begun.tx ≡ Some tx) (addr : Addr) (mode : Mode) where
-  abbrev wished : Wished
-  wished = wish_of addr mode
+  abbrev request : RangeRequest
+  request = range_request_at addr mode
 
   -- nothing of what another has taken has a byte of what is free
   module _ (free : IsFree core.holds tx addr mode) (other : ℕ) (differs : other ≢ number) (w : State)
@@ -264,50 +264,50 @@ module _ (boot : ℕ) (entries : List Entry) (told : Told) (core : CoreState) (w
             → IsSomeAnd found (λ (hold : Hold). covers hold.mode had ≡ true) → ⊥
         by None none taken = absurd taken
         by (Some hold) hold_is much =
-            let (there, at) = taken_at core t tidy a hold hold_is in
+            let (there, at) = taken_at core t well_formed a hold hold_is in
             let own : IsHoldOf tx addr hold = All-contains
-            (λ (h : Hold). Overlap h.addr addr → KeepsOff tx mode h → IsHoldOf tx addr h) core.holds
+            (λ (h : Hold). Overlap h.addr addr → ConflictsWith tx mode h → IsHoldOf tx addr h) core.holds
             hold free.others there (subst (λ (b : Addr). Overlap b addr) (sym at) over)
             (inr (excluded hold.mode had mode much off)) in
             let same : t ≡ tx = sym (owner_at core t a hold hold_is) ∙ own.0 in
-            differs (share.alone other number tx w worker w_is is (t_is ∙ ap (λ (n : ℕ). Some n) same) tx_is)
+            differs (share.one_owner other number tx w worker w_is is (t_is ∙ ap (λ (n : ℕ). Some n) same) tx_is)
 
-    one_clash : (one : Aim) → IsTakenIn core t one → aim_keeps_off wished one ≡ true → ⊥
-    one_clash (aim.Object a by) taken off =
-        let (over, alone_too) = and_parts (shares wished a) (is_exclusive by || is_exclusive mode) off in
-        clash a by (shared_by addr a mode over) taken alone_too
-    one_clash (aim.Claim block) taken off =
+    one_clash : (one : LockRequest) → IsTakenIn core t one → lock_request_conflicts request one ≡ true → ⊥
+    one_clash (lock_request.Object a by) taken off =
+        let (over, exclusive_too) = and_parts (shares request a) (is_exclusive by || is_exclusive mode) off in
+        clash a by (shared_by addr a mode over) taken exclusive_too
+    one_clash (lock_request.Claim block) taken off =
         clash taken.0 modes.Exclusive (whole_shares block addr taken.0 off taken.1) taken.2 refl
 
-    never_noted : NotesTaken core t w.known.taken → takes wished (mine w) ≡ true → ⊥
-    never_noted notes some =
-        let (one, taken, off) = found_any (aim_keeps_off wished) (IsTakenIn core t) w.known.taken notes.taken some in
+    never_traced : TracesTaken core t w.known.taken → takes request (mine w) ≡ true → ⊥
+    never_traced traces some =
+        let (one, taken, off) = found_any (lock_request_conflicts request) (IsTakenIn core t) w.known.taken traces.taken some in
         one_clash one taken off
 
   never_taken : IsFree core.holds tx addr mode → (other : ℕ) → other ≢ number
       → (found : Option State) → slice_get workers other ≡ found
-      → has_taken wished (told.workers other) ≡ true → ⊥
+      → has_taken request (run_state.workers other) ≡ true → ⊥
   never_taken free other differs None none so =
-      true≢false (sym so ∙ ap (has_taken wished) (beyond other none))
+      true≢false (sym so ∙ ap (has_taken request) (beyond other none))
   never_taken free other differs (Some w) w_is so =
-      let (told_is, stands, at) = each other w w_is in
-      let (out, some) = noted_in w wished w.phase (sym (ap (has_taken wished) told_is) ∙ so) in
-      by w.begun.tx refl (at.with.sound.transaction ∙ out) at.notes some
+      let (progress_of_each, stands, at) = each other w w_is in
+      let (out, some) = traced_in w request w.phase (sym (ap (has_taken request) progress_of_each) ∙ so) in
+      by w.begun.tx refl (at.with.sound.transaction ∙ out) at.traces some
     where
       by : (found : Option ℕ) → w.begun.tx ≡ found → is_some found ≡ true
-          → IfSome found (λ t. NotesTaken core t w.known.taken) → takes wished (mine w) ≡ true → ⊥
-      by None none out notes some = true≢false (sym out)
-      by (Some t) t_is out notes some = never_noted free other differs w w_is t t_is notes some
+          → IfSome found (λ t. TracesTaken core t w.known.taken) → takes request (mine w) ≡ true → ⊥
+      by None none out traces some = true≢false (sym out)
+      by (Some t) t_is out traces some = never_traced free other differs w w_is t t_is traces some
 
   -- and no other fetches a block of which no fetch is pending
   never_fetched : is_fetching core addr.block ≡ false → (other : ℕ) → (found : Option State)
-      → slice_get workers other ≡ found → fetches addr.block (told.workers other) ≡ true → ⊥
+      → slice_get workers other ≡ found → fetches addr.block (run_state.workers other) ≡ true → ⊥
   never_fetched settled other None none so =
       true≢false (sym so ∙ ap (fetches addr.block) (beyond other none))
   never_fetched settled other (Some w) w_is so =
-      let (told_is, stands, at) = each other w w_is in
+      let (progress_of_each, stands, at) = each other w w_is in
       pending_at w.begun.io (fetch_in w addr.block boot entries w.phase stands.stands
-      (sym (ap (fetches addr.block) told_is) ∙ so)) (share.fetched other w w_is)
+      (sym (ap (fetches addr.block) progress_of_each) ∙ so)) (share.fetched other w w_is)
     where
       pending_at : (io : Option Fetch) → IsFetchAt addr.block io
           → IfSome io (λ (found : Fetch). is_fetching core found.block ≡ true) → ⊥
@@ -315,23 +315,23 @@ module _ (boot : ℕ) (entries : List Entry) (told : Told) (core : CoreState) (w
       pending_at (Some io) at pending =
           true≢false (sym pending ∙ ap (λ (b : BlockNo). is_fetching core b) at ∙ settled)
 
-  pub left_free : IsOpen core tx addr mode → IsLeftFree told number wished
+  pub left_free : IsOpen core tx addr mode → IsLeftFree run_state number request
   left_free left = record {
-    free = λ other differs. false_from_ne_true (has_taken wished (told.workers other))
+    free = λ other differs. false_from_ne_true (has_taken request (run_state.workers other))
         (never_taken left.free other differs (slice_get workers other) refl);
-    settled = λ other differs. false_from_ne_true (fetches addr.block (told.workers other))
+    settled = λ other differs. false_from_ne_true (fetches addr.block (run_state.workers other))
         (never_fetched left.settled other (slice_get workers other) refl);
   }
 
   -- nor has another an object in memory of a block that isn't there
   never_loaded : in_memory core addr.block ≡ None → (other : ℕ) → (found : Option State)
-      → slice_get workers other ≡ found → has_loaded addr.block (told.workers other) ≡ true → ⊥
+      → slice_get workers other ≡ found → has_loaded addr.block (run_state.workers other) ≡ true → ⊥
   never_loaded absent other None none so =
       true≢false (sym so ∙ ap (has_loaded addr.block) (beyond other none))
   never_loaded absent other (Some w) w_is so =
-      let (told_is, stands, at) = each other w w_is in
-      loaded_in w addr.block core absent w.phase at.loads (sym (ap (has_loaded addr.block) told_is) ∙ so)
+      let (progress_of_each, stands, at) = each other w w_is in
+      loaded_in w addr.block core absent w.phase at.loads (sym (ap (has_loaded addr.block) progress_of_each) ∙ so)
 
-  pub none_loaded_beside : in_memory core addr.block ≡ None → IsSoOfNoOther told number (has_loaded addr.block)
-  none_loaded_beside absent = λ other differs. false_from_ne_true (has_loaded addr.block (told.workers other))
+  pub none_loaded_by_others : in_memory core addr.block ≡ None → IsSoOfNoOther run_state number (has_loaded addr.block)
+  none_loaded_by_others absent = λ other differs. false_from_ne_true (has_loaded addr.block (run_state.workers other))
       (never_loaded absent other (slice_get workers other) refl)

@@ -8,12 +8,12 @@ use Rattle.txn_law.specs.HomeRead.{HasContents}
 use Rattle.store_promise.specs.declared.events.Step.{Step}
 use Rattle.store_promise.specs.declared.transcript.Run.{Run}
 use Rattle.store_promise.specs.FailedCalls.{one_if}
-use Rattle.store_promise.specs.Running.{IsMovedBy, StoreSide}
+use Rattle.store_promise.specs.Running.{IsMovedBy, StoreState}
 use Rattle.store_promise.specs.Transcript.{Transcript, calls_device, transcript_of}
-use Rattle.store_law.specs.Runs.Noting.{clock_now}
+use Rattle.store_law.specs.Runs.Tracing.{clock_now}
 use Rattle.store_law.specs.Runs.Run.{Beginning, IsRun}
 use Rattle.store_law.proofs.RunsLemmas.Stops.{clock_is}
-use Rattle.store.specs.Runs.Going.{AreSoFar, IsGoing, IsRunAt, RunSide}
+use Rattle.store.specs.Runs.Going.{AreAtStage, IsGoing, IsRunAt, StoreAndWorkers}
 use Rattle.store.specs.Runs.Running.{counted, one_more}
 use Rattle.store_workers.specs.Worker.{Fits, GoesWith}
 use Rattle.store_workers.specs.declared.workers.Worker.{Worker}
@@ -31,26 +31,26 @@ pub has_contents : (d : Device) → AreBlocks d → HasContents d
 has_contents d blocks block within = blocks.some d.clock block (omega arith) within
 
 -- the clock counts the calls
-calls_are : (b : Beginning) (store : StoreSide) (workers : List State) (clock : ℕ) (told : Run)
-    → IsRunAt b (record { store = store; workers = workers; clock = clock }) told
-    → clock ≡ count_by calls_device told.steps.items
-calls_are b store workers clock told at =
+calls_are : (b : Beginning) (store : StoreState) (workers : List State) (clock : ℕ) (run_record : Run)
+    → IsRunAt b (record { store = store; workers = workers; clock = clock }) run_record
+    → clock ≡ count_by calls_device run_record.steps.items
+calls_are b store workers clock run_record at =
     let moved = at.going.run.moved.calls in
     let is = at.clock in
     omega (arith, moved, is)
 
-pub clock_told : (b : Beginning) (store : StoreSide) (workers : List State) (clock : ℕ) (told : Run)
-    → IsRunAt b (record { store = store; workers = workers; clock = clock }) told
-    → clock ≡ clock_now (transcript_of told)
-clock_told b store workers clock told at =
-    calls_are b store workers clock told at ∙ sym (clock_is (transcript_of told))
+pub clock_is_counted : (b : Beginning) (store : StoreState) (workers : List State) (clock : ℕ) (run_record : Run)
+    → IsRunAt b (record { store = store; workers = workers; clock = clock }) run_record
+    → clock ≡ clock_now (transcript_of run_record)
+clock_is_counted b store workers clock run_record at =
+    calls_are b store workers clock run_record at ∙ sym (clock_is (transcript_of run_record))
 
-few_calls : (b : Beginning) (store : StoreSide) (workers : List State) (clock : ℕ) (told : Run)
-    → IsRunAt b (record { store = store; workers = workers; clock = clock }) told
-    → length told.steps.items + 1 < 2 ^ 64 → clock + 1 ≤ 2 ^ 64 - 1
-few_calls b store workers clock told at few =
-    let is = calls_are b store workers clock told at in
-    let within = count_by-le-length calls_device told.steps.items in
+few_calls : (b : Beginning) (store : StoreState) (workers : List State) (clock : ℕ) (run_record : Run)
+    → IsRunAt b (record { store = store; workers = workers; clock = clock }) run_record
+    → length run_record.steps.items + 1 < 2 ^ 64 → clock + 1 ≤ 2 ^ 64 - 1
+few_calls b store workers clock run_record at few =
+    let is = calls_are b store workers clock run_record at in
+    let within = count_by-le-length calls_device run_record.steps.items in
     omega (arith, is, within, few)
 
 one_more_is : (clock most : ℕ) → clock + 1 ≤ most → min (clock + 1) most ≡ clock + 1
@@ -65,7 +65,7 @@ counted_is clock made few = by_call (calls_device made)
     by_call false = omega arith
 
 -- with an event that may be a call of the device
-pub taken_on : (b : Beginning) (old new : StoreSide) (workers later : List State) (clock next : ℕ)
+pub taken_on : (b : Beginning) (old new : StoreState) (workers later : List State) (clock next : ℕ)
     (made : Option Step) (before after : Run)
     → IsRunAt b (record { store = old; workers = workers; clock = clock }) before
     → length before.steps.items + 1 < 2 ^ 64 → next ≡ counted clock made → IsMovedBy old.device made new.device
@@ -80,7 +80,7 @@ taken_on b old new workers later clock next made before after at few next_is mov
 }
 
 -- so it is by the steps that were told
-pub read_on : (b : Beginning) (old new : StoreSide) (workers later : List State) (clock next : ℕ) (made : Option Step)
+pub read_on : (b : Beginning) (old new : StoreState) (workers later : List State) (clock next : ℕ) (made : Option Step)
     (before after : Run) → IsRunAt b (record { store = old; workers = workers; clock = clock }) before
     → length before.steps.items + 1 < 2 ^ 64 → next ≡ counted clock made
     → after.steps.items ≡ before.steps.items ++ made ∷ []
@@ -97,7 +97,7 @@ read_on b old new workers later clock next made before after at few next_is step
 }
 
 -- with one that is none
-pub worked_on : (b : Beginning) (old new : StoreSide) (workers later : List State) (clock next : ℕ)
+pub worked_on : (b : Beginning) (old new : StoreState) (workers later : List State) (clock next : ℕ)
     (before after : Run)
     → IsRunAt b (record { store = old; workers = workers; clock = clock }) before → next ≡ clock
     → new.device ≡ old.device → IsGoing b new later after
@@ -111,7 +111,7 @@ worked_on b old new workers later clock next before after at next_is same going 
 }
 
 -- a run that told nothing more is as it was
-pub untold : (b : Beginning) (run : RunSide) (before after : Run) → transcript_of after ≡ transcript_of before
+pub untold : (b : Beginning) (run : StoreAndWorkers) (before after : Run) → transcript_of after ≡ transcript_of before
     → IsRunAt b run before → IsRunAt b run after
 untold b run before after same at = record {
   going = record {
@@ -120,7 +120,7 @@ untold b run before after same at = record {
     last = at.going.last;
     run = subst (λ (t : Transcript). IsRun b at.going.setting t at.going.base run.store [] at.going.last)
         (sym same) at.going.run;
-    so_far = subst (λ (t : Transcript). AreSoFar b at.going.base run.store.core t run.workers) (sym same)
+    so_far = subst (λ (t : Transcript). AreAtStage b at.going.base run.store.core t run.workers) (sym same)
         at.going.so_far;
   };
   clock = at.clock;

@@ -21,15 +21,15 @@ use Rattle.store_promise.specs.declared.events.Step.{Step}
 use Rattle.store_workers.proofs.HowFar.{without_broken_reply, without_reply}
 use Rattle.store_workers.proofs.WorkCases.{Cases, by_cases}
 use Rattle.store_workers.specs.Worker.{ReadsWithin}
-use Rattle.store_workers.specs.WorkerAnswers.{after_commit, begun_claimed, begun_wanted, told_of, with_answer}
+use Rattle.store_workers.specs.WorkerAnswers.{after_commit, begun_claimed, begun_wanted, answered_or_waiting, with_answer}
 use Rattle.store_workers.specs.WorkerAnswers.{with_entry}
-use Rattle.store_workers.specs.WorkerSteps.{GoesOn, IsTold, Side, none_begun, with_snap}
+use Rattle.store_workers.specs.WorkerSteps.{GoesOn, IsReplySent, WorkerAndCore, none_begun, with_snap}
 use Rattle.store_workers.specs.declared.workers.parts.Begun.{Begun}
 use Rattle.store_workers.specs.declared.workers.parts.Job.{Job}
 use Rattle.store_workers.specs.declared.workers.parts.Phase.{Phase}
 use Rattle.store_workers.specs.declared.workers.parts.State.{State}
 
-module _ (old new : Side) where
+module _ (old new : WorkerAndCore) where
   abbrev blocks : ℕ
   blocks = old.core.log.blocks
 
@@ -60,7 +60,7 @@ module _ (old new : Side) where
   claimed_none (claim.NoMemory back) = refl
 
   placed_none : (job : Job) (reply : Reply) (place : Seq) (base : State) (stable : Bool)
-      → (with_entry job reply (told_of stable job reply place base)).begun ≡ base.begun
+      → (with_entry job reply (answered_or_waiting stable job reply place base)).begun ≡ base.begun
   placed_none job reply place base true = refl
   placed_none job reply place base false = refl
 
@@ -74,9 +74,9 @@ module _ (old new : Side) where
   committed_none job reply base (commit.Broken back change) none = refl
   committed_none job reply base (commit.Spent back change) none = refl
 
-  waited_same : (place : Seq) (settled broken : Bool) → IsTold settled broken place old.worker new.worker
+  waited_same : (place : Seq) (settled broken : Bool) → IsReplySent settled broken place old.worker new.worker
       → new.worker.begun.io ≡ old.worker.begun.io
-  waited_same place settled broken told = by settled broken told
+  waited_same place settled broken reply_sent = by settled broken reply_sent
     where
       heard : (base : State) → base.begun ≡ old.worker.begun → (found : Option Reply)
           → IsSomeAnd found (λ reply. new.worker ≡ with_answer (verdict.Reply reply) (Some place) base)
@@ -84,7 +84,7 @@ module _ (old new : Side) where
       heard base same None is = absurd is
       heard base same (Some reply) is = ap (λ (s : State). s.begun.io) is ∙ ap (λ (b : Begun). b.io) same
 
-      by : (settled broken : Bool) → IsTold settled broken place old.worker new.worker
+      by : (settled broken : Bool) → IsReplySent settled broken place old.worker new.worker
           → new.worker.begun.io ≡ old.worker.begun.io
       by true broken is = heard (without_reply old.worker) refl old.worker.work.reply is
       by false true is =
@@ -93,8 +93,8 @@ module _ (old new : Side) where
 
   cases : Cases old new Within
   cases = record {
-    idle = λ is within. by_io _ (ap (λ (s : Side). s.worker.begun.io) is) within;
-    reading = λ is within. by_io _ (ap (λ (s : Side). s.worker.begun.io) is) within;
+    idle = λ is within. by_io _ (ap (λ (s : WorkerAndCore). s.worker.begun.io) is) within;
+    reading = λ is within. by_io _ (ap (λ (s : WorkerAndCore). s.worker.begun.io) is) within;
     begun = λ job one job_is served has within. by_io _ (ap (λ (s : State). s.begun.io) has.worker) tt;
     not_begun = λ job why job_is served none core is within. by_io _ (ap (λ (s : State). s.begun.io) is) within;
     replied = λ job job_is served core is within. by_io _ (ap (λ (s : State). s.begun.io) is) within;
@@ -110,7 +110,7 @@ module _ (old new : Side) where
     given = λ ok io made io_is has within. by_io None (ap (λ (s : State). s.begun.io) has.worker) tt;
     refused = λ why job tx made job_is tx_is has within. by_io None (ap (λ (s : State). s.begun.io) has.worker) tt;
     left = λ tx made tx_is has within. by_io None (ap (λ (s : State). s.begun.io) has.worker) tt;
-    waited = λ place made has within. by_io _ (waited_same place has.settled old.core.log.broken has.told) within;
+    waited = λ place made has within. by_io _ (waited_same place has.settled old.core.log.broken has.is_reply_sent) within;
   }
 
   pub stays_within : (made : Option Step) → GoesOn old.worker.phase old made new

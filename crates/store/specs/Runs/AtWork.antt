@@ -19,21 +19,21 @@ use Rattle.txn_law.specs.Leaves.{in_memory, taken_by}
 use Rattle.txn_law.specs.Object.{ObjectBytes}
 use Rattle.txn_law.specs.Window.{with_objects}
 use Rattle.store_promise.specs.OpenSince.{TellsOf, file_blocks}
-use Rattle.store_promise.specs.Running.{IsRunningOver, StoreSide, with_blocks}
+use Rattle.store_promise.specs.Running.{IsRunningOver, StoreState, with_blocks}
 use Rattle.store_promise.specs.Schedule.{Setting}
-use Rattle.store_promise.specs.declared.aims.Aim.{Aim}
-use Rattle.store_promise.specs.declared.aims.Aim.TheVariants as aim
+use Rattle.store_promise.specs.declared.lock_requests.LockRequest.{LockRequest}
+use Rattle.store_promise.specs.declared.lock_requests.LockRequest.TheVariants as lock_request
 use Rattle.store_promise.specs.declared.answers.Entry.{Entry}
 use Rattle.store_promise.specs.declared.events.Committing.TheVariants as committing
 use Rattle.store_promise.specs.declared.events.Step.{Step}
 use Rattle.store_promise.specs.declared.events.Step.TheVariants as step
-use Rattle.store_workers.specs.Alone.{IsAlone, PlansAlone}
+use Rattle.store_workers.specs.Single.{IsSingle, HasTakenInPlan}
 use Rattle.store_workers.specs.Asked.{Asking}
-use Rattle.store_workers.specs.Beside.{NotesAll}
+use Rattle.store_workers.specs.Unaffected.{TracesAll}
 use Rattle.store_workers.specs.Knowing.{Knowing}
 use Rattle.store_workers.specs.Seen.{Seen, seen_in}
 use Rattle.store_workers.specs.Worker.{GoesWith}
-use Rattle.store_workers.specs.WorkerSteps.{Side}
+use Rattle.store_workers.specs.WorkerSteps.{WorkerAndCore}
 use Rattle.store_workers.specs.declared.workers.parts.Phase.{Phase}
 use Rattle.store_workers.specs.declared.workers.parts.Phase.TheVariants.{Idle, Called, Planning}
 use Rattle.store_workers.specs.declared.workers.parts.Phase.TheVariants.{Reading, Read}
@@ -57,19 +57,19 @@ abbrev pub AreLoadedFor : CoreState → ℕ → List Addr → Type 0
 AreLoadedFor core tx addrs = All (IsLoadedFor core tx) addrs
 
 -- so it is of an object that was taken; a block that is claimed needs not be there
-abbrev pub IsAimLoaded : CoreState → ℕ → Aim → Type 0
-IsAimLoaded core tx (aim.Object addr mode) = IsLoadedFor core tx addr
-IsAimLoaded core tx (aim.Claim block) = Unit {0}
+abbrev pub IsLockRequestLoaded : CoreState → ℕ → LockRequest → Type 0
+IsLockRequestLoaded core tx (lock_request.Object addr mode) = IsLoadedFor core tx addr
+IsLockRequestLoaded core tx (lock_request.Claim block) = Unit {0}
 
 -- and of each but the object whose block is fetched
-abbrev pub IsLoadedBut : Option Addr → CoreState → ℕ → Aim → Type 0
-IsLoadedBut wish core tx (aim.Object addr mode) = IsLoadedFor core tx addr ⊎ (wish ≡ Some addr)
-IsLoadedBut wish core tx (aim.Claim block) = Unit {0}
+abbrev pub IsLoadedBut : Option Addr → CoreState → ℕ → LockRequest → Type 0
+IsLoadedBut fetch_addr core tx (lock_request.Object addr mode) = IsLoadedFor core tx addr ⊎ (fetch_addr ≡ Some addr)
+IsLoadedBut fetch_addr core tx (lock_request.Claim block) = Unit {0}
 
 -- ---- the run
 
 -- the run with this core
-abbrev pub with_core : StoreSide → CoreState → StoreSide
+abbrev pub with_core : StoreState → CoreState → StoreState
 with_core side core = record side { core = core }
 
 -- ---- a worker at work
@@ -77,14 +77,14 @@ with_core side core = record side { core = core }
 -- its transaction has taken the object whose block is fetched, and the others that it has taken are in memory
 abbrev pub FetchesFor : Option ℕ → Asking → Knowing → CoreState → Type 0
 FetchesFor tx asked knowing core = IsSomeAnd tx (λ number.
-    All (IsLoadedBut asked.wish core number) knowing.taken
-    × IsSomeAnd asked.wish (λ addr. has_taken core number addr ≡ true))
+    All (IsLoadedBut asked.fetch_addr core number) knowing.taken
+    × IsSomeAnd asked.fetch_addr (λ addr. has_taken core number addr ≡ true))
 
 -- what a worker's transaction has taken is in memory while it goes by its plans
 abbrev pub LoadsFor : Phase → Option ℕ → Asking → Knowing → CoreState → Type 0
 LoadsFor Idle tx asked knowing core = Unit {0}
 LoadsFor Called tx asked knowing core = Unit {0}
-LoadsFor Planning tx asked knowing core = IsSomeAnd tx (λ number. All (IsAimLoaded core number) knowing.taken)
+LoadsFor Planning tx asked knowing core = IsSomeAnd tx (λ number. All (IsLockRequestLoaded core number) knowing.taken)
 LoadsFor Reading tx asked knowing core = FetchesFor tx asked knowing core
 LoadsFor (Read ok) tx asked knowing core = FetchesFor tx asked knowing core
 LoadsFor (Refused why) tx asked knowing core = Unit {0}
@@ -95,33 +95,33 @@ abbrev pub Loads : State → CoreState → Type 0
 Loads worker core = LoadsFor worker.phase worker.begun.tx worker.asked worker.known core
 
 -- it has noted what its transaction has taken, while it goes by its plans
-abbrev pub NotesFor : Phase → State → CoreState → Type 0
-NotesFor Idle worker core = Unit {0}
-NotesFor Called worker core = Unit {0}
-NotesFor Planning worker core = NotesAll worker core
-NotesFor Reading worker core = NotesAll worker core
-NotesFor (Read ok) worker core = NotesAll worker core
-NotesFor (Refused why) worker core = Unit {0}
-NotesFor Again worker core = Unit {0}
-NotesFor (Waiting place) worker core = Unit {0}
+abbrev pub TracesFor : Phase → State → CoreState → Type 0
+TracesFor Idle worker core = Unit {0}
+TracesFor Called worker core = Unit {0}
+TracesFor Planning worker core = TracesAll worker core
+TracesFor Reading worker core = TracesAll worker core
+TracesFor (Read ok) worker core = TracesAll worker core
+TracesFor (Refused why) worker core = Unit {0}
+TracesFor Again worker core = Unit {0}
+TracesFor (Waiting place) worker core = Unit {0}
 
 -- A core as its one worker has left it: it fits the worker, nobody else has taken or fetches anything of it,
 -- what the worker has taken is in memory, and noted is what its transaction has taken, address by address, while the
 -- worker goes by its plans.
 pub record IsCoreAtWork (worker : State) (core : CoreState) : Type 0 where
   pub with : GoesWith worker core
-  pub alone : IsAlone worker core
+  pub single_worker : IsSingle worker core
   pub loads : Loads worker core
-  pub notes : NotesFor worker.phase worker core
+  pub traces : TracesFor worker.phase worker core
 
 -- A core and one of its workers, beside which others may have some of it: it fits the worker, the worker has of
 -- its call what it has taken, each object of that is in memory while it goes by its plans, and noted is what
 -- its transaction has taken, address by address.
 pub record IsAtWork (worker : State) (core : CoreState) : Type 0 where
   pub with : GoesWith worker core
-  pub plans : PlansAlone worker.phase worker core
+  pub plans : HasTakenInPlan worker.phase worker core
   pub loads : Loads worker core
-  pub notes : NotesAll worker core
+  pub traces : TracesAll worker core
 
 -- a fetch that was made well, and isn't given back yet
 abbrev pub fetches_in : Phase → Option Fetch → List Fetch
@@ -144,12 +144,12 @@ entry_by number entry = record { worker = number; ctx = entry.ctx; call = entry.
 
 -- the object was read for the call, and asked for alone, or its block was claimed
 abbrev pub IsSeenIn : Seen → ObjectBytes → Type 0
-IsSeenIn seen object = (is_had object.addr modes.Exclusive seen.objects seen.alone ≡ true)
+IsSeenIn seen object = (is_had object.addr modes.Exclusive seen.objects seen.exclusives ≡ true)
     ⊎ (is_claimed object.addr.block seen.claims ≡ true)
 
 -- What a worker's plan ended in took a place, and lies ready as an entry, which tells of a step of the
 -- sequential server. It writes what was read and claimed for it, in the blocks that the commit names.
-pub record HasTakenPlace (boot number : ℕ) (made : Option Step) (old new : Side) : Type 0 where
+pub record HasTakenPlace (boot number : ℕ) (made : Option Step) (old new : WorkerAndCore) : Type 0 where
   pub tx : ℕ
   pub plan : Planned
   pub place : ℕ
@@ -163,8 +163,8 @@ pub record HasTakenPlace (boot number : ℕ) (made : Option Step) (old new : Sid
 -- A place was taken, the next one. In the setting that has from it on the blocks that stand for the files
 -- then, the run goes on with the place's entry, a step of the sequential server from the files as they were;
 -- and those blocks are the old ones with what was written.
-pub record GoesOnWith (o : Setting) (base : Image) (store : StoreSide) (new : Side) (boot number : ℕ)
-    (first : Tree) (entries : List Committed) (last : Tree) (made : Option Step) (old : Side) : Type 0 where
+pub record GoesOnWith (o : Setting) (base : Image) (store : StoreState) (new : WorkerAndCore) (boot number : ℕ)
+    (first : Tree) (entries : List Committed) (last : Tree) (made : Option Step) (old : WorkerAndCore) : Type 0 where
   pub taken : HasTakenPlace boot number made old new
   pub next : taken.place ≡ length entries + 1
   pub left : Tree

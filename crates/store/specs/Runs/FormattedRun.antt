@@ -13,12 +13,12 @@ use Rattle.store_promise.specs.Headline.{ComesOfRun, MayRun}
 use Rattle.store_promise.specs.Openings.{IsFormatted}
 use Rattle.store_promise.specs.Schedule.{Schedule}
 use Rattle.store_promise.specs.Transcript.{Report, report_of}
-use Rattle.store_images.specs.declared.formatting.FormatFault.{FormatFault}
-use Rattle.store_images.specs.declared.formatting.FormatFault.TheVariants as fault
+use Rattle.store_images.specs.declared.formatter.FormatFault.{FormatFault}
+use Rattle.store_images.specs.declared.formatter.FormatFault.TheVariants as fault
 
 -- what came of a run, as lists
 abbrev pub answer_of : Result Run OpenFault → Result Report OpenFault
-answer_of (Ok told) = Ok (report_of told)
+answer_of (Ok run_record) = Ok (report_of run_record)
 answer_of (Err cause) = Err cause
 
 -- a new device of so many blocks: no call of it was made, so that none has failed, and each block has one

@@ -10,19 +10,19 @@ use Rattle.wal.specs.Io.{Io, IsCallWithin}
 use Rattle.circ.specs.Log.Calls.{Pending}
 use Rattle.store_promise.specs.declared.events.Step.{Step}
 use Rattle.store_promise.specs.DeviceCalls.{DoesStep}
-use Rattle.store_promise.specs.Running.{StoreSide}
-use Rattle.store_promise.specs.ToldOf.{call_told}
+use Rattle.store_promise.specs.Running.{StoreState}
+use Rattle.store_promise.specs.LogStateOf.{call_state_of}
 use Rattle.store_promise.specs.Transcript.{calls_device}
-use Rattle.store_images.specs.LogSide.{pending_of}
-use Rattle.store_workers.specs.Beside.{Replaces}
+use Rattle.store_images.specs.LogCallState.{pending_of}
+use Rattle.store_workers.specs.Unaffected.{Replaces}
 use Rattle.store_workers.specs.Worker.{Fits, ReadsWithin, at_rest}
-use Rattle.store.specs.declared.runs.runs.running.Calls.{Calls}
+use Rattle.store.specs.declared.runs.runs.run_events.Calls.{Calls}
 use Rattle.store_workers.specs.declared.workers.Worker.{Worker}
 use Rattle.store_workers.specs.declared.workers.parts.State.{State}
 
 -- a device and a core, with the calls that are out
-abbrev pub side_of : Device → CoreState → Calls → StoreSide
-side_of device core calls = record {
+abbrev pub store_state_of : Device → CoreState → Calls → StoreState
+store_state_of device core calls = record {
   device = device;
   core = core;
   logging = pending_of calls.logger.io calls.logger.made;
@@ -30,8 +30,8 @@ side_of device core calls = record {
 }
 
 -- a step does the call that the log, or the installer, has out, or nothing
-abbrev pub DoesItsStep : StoreSide → Option Step → StoreSide → Type 0
-DoesItsStep old made new = DoesStep (call_told old.logging) (call_told old.installing) made
+abbrev pub DoesItsStep : StoreState → Option Step → StoreState → Type 0
+DoesItsStep old made new = DoesStep (call_state_of old.logging) (call_state_of old.installing) made
     (current old.device) (current new.device)
 
 -- ---- by the side
@@ -41,9 +41,9 @@ abbrev pub of_side : Side → Calls → Caller
 of_side sides.Log calls = calls.logger
 of_side sides.Home calls = calls.installer
 
-abbrev pub beside : Side → Calls → Caller
-beside sides.Log calls = calls.installer
-beside sides.Home calls = calls.logger
+abbrev pub other_caller : Side → Calls → Caller
+other_caller sides.Log calls = calls.installer
+other_caller sides.Home calls = calls.logger
 
 -- what it has out
 abbrev pub out_of : Caller → Pending
@@ -71,8 +71,8 @@ abbrev pub IsAtRest : Worker → Type 0
 IsAtRest worker = worker.state ≡ at_rest
 
 -- it fits each core that it fitted
-abbrev pub KeepsFits : Worker → Worker → Type 0
-KeepsFits old new = (core : CoreState) → Fits old core → Fits new core
+abbrev pub PreservesFits : Worker → Worker → Type 0
+PreservesFits old new = (core : CoreState) → Fits old core → Fits new core
 
 -- One of the workers did this, and is another now; the others are as they were.
 pub record MovesOne (workers : List Worker) (number : ℕ) (Does : Worker → Worker → Type 0) (later : List Worker)

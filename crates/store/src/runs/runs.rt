@@ -4,13 +4,13 @@ ghost use Rattle.nfs_spec.specs.Model.Tree.{Tree};
 ghost use Rattle.store_promise.specs.Headline.{IsPromised};
 ghost use Rattle.store_promise.specs.Transcript.{report_of};
 
-mod going;
+mod going_laws;
 mod going_workers;
-mod running;
+mod run_events;
 mod sound;
 
 use disk::CrashDisk;
-use running::Running;
+use run_events::Running;
 pub use sound::can_be_spelled;
 use std::alloc::Global;
 use store_images::{close, open};
@@ -29,27 +29,27 @@ pub fn run<D: CrashDisk>(
 ) -> (D, Result<Run, OpenFault>)
     ensures model { D.keeps_model result.0 → D.keeps_model disk }
     ensures promised { (tree : Tree) (first : ℕ) → MatchResult result.1
-        (λ told. IsPromised (D.keeps_model result.0) (D.device disk) (D.device result.0) tree first
+        (λ run_record. IsPromised (D.keeps_model result.0) (D.device disk) (D.device result.0) tree first
         workers events.items
-        (Ok (report_of told)))
+        (Ok (report_of run_record)))
         (λ fault. IsPromised (D.keeps_model result.0) (D.device disk) (D.device result.0) tree first
         workers events.items
         (Err fault)) }
 {
     store_law::a_run_begins();
-    store_law::a_run_keeps_its_promise();
-    let Ok(room) = Vec::with_capacity(alloc, workers) else {
+    store_law::a_run_preserves_its_promise();
+    let Ok(reserved_workers) = Vec::with_capacity(alloc, workers) else {
         return (disk, Err(OpenFault::NoMemory));
     };
     let store = match open(alloc, disk) {
         Ok(store) => store,
         Err((disk, fault)) => {
-            room.destroy_empty();
+            reserved_workers.destroy_empty();
             return (disk, Err(fault));
         }
     };
     let mut run = Run::new(alloc, store.boot());
-    let mut running = Running::new(alloc, store, workers, room);
+    let mut running = Running::new(alloc, store, workers, reserved_workers);
     'events: for event in events {
         if !running.take(alloc, event, &mut run) {
             break;

@@ -82,9 +82,9 @@ home_from size number is = by_test (nat_le FIRST_HOME_BLOCK number) refl is
     by_test false from both = cc
 
 -- an object that is laid over homes
-one_laid : (size : ℕ) (image : Image) (object : ObjectBytes) → IsHomeOn size object.addr.block
+one_overlaid : (size : ℕ) (image : Image) (object : ObjectBytes) → IsHomeOn size object.addr.block
     → with_object (homes_of size image) object ≡ homes_of size (with_object image object)
-one_laid size image object home =
+one_overlaid size image object home =
     λ i number. each (nat_eq number object.addr.block.0) (is_home size number) (there number) (image number)
     (replicate BLOCK_BYTES 0) i
   where
@@ -104,25 +104,25 @@ one_laid size image object home =
     each false false there content zeros = refl
 
 -- objects that are laid over homes
-pub all_laid : (size : ℕ) (image : Image) (objects : List ObjectBytes)
+pub all_overlaid : (size : ℕ) (image : Image) (objects : List ObjectBytes)
     → All (λ (object : ObjectBytes). IsHomeOn size object.addr.block) objects
     → with_objects (homes_of size image) objects ≡ homes_of size (with_objects image objects)
-all_laid size image [] home = refl
-all_laid size image (object ∷ objects) home =
+all_overlaid size image [] home = refl
+all_overlaid size image (object ∷ objects) home =
     ap (λ (blocks : Image). with_objects blocks objects)
-    (one_laid size image object (All-head (λ (o : ObjectBytes). IsHomeOn size o.addr.block) object objects home))
-    ∙ all_laid size (with_object image object) objects
+    (one_overlaid size image object (All-head (λ (o : ObjectBytes). IsHomeOn size o.addr.block) object objects home))
+    ∙ all_overlaid size (with_object image object) objects
     (All-tail (λ (o : ObjectBytes). IsHomeOn size o.addr.block) object objects home)
 
 -- and leave what lies before them
-pub laid_behind : (size : ℕ) (image : Image) (objects : List ObjectBytes) (block : ℕ) → block < FIRST_HOME_BLOCK
+pub overlaid_behind : (size : ℕ) (image : Image) (objects : List ObjectBytes) (block : ℕ) → block < FIRST_HOME_BLOCK
     → All (λ (object : ObjectBytes). IsHomeOn size object.addr.block) objects
     → with_objects image objects block ≡ image block
-laid_behind size image [] block before home = refl
-laid_behind size image (object ∷ objects) block before home =
+overlaid_behind size image [] block before home = refl
+overlaid_behind size image (object ∷ objects) block before home =
     let at = All-head (λ (o : ObjectBytes). IsHomeOn size o.addr.block) object objects home in
     let from = at.0 in
-    laid_behind size (with_object image object) objects block before
+    overlaid_behind size (with_object image object) objects block before
     (All-tail (λ (o : ObjectBytes). IsHomeOn size o.addr.block) object objects home)
     ∙ ap (λ t. if t then spliced (image block) object.addr.offset object.bytes else image block)
     (differs block object.addr.block.0 (λ same. omega (arith, same, before, from)))
@@ -130,11 +130,11 @@ laid_behind size image (object ∷ objects) block before home =
 -- ---- what a device holds so, an opening finds
 
 -- what a crash leaves of a block that has one content
-alone_there : (contents : List Content) (content : Content) → length contents ≡ 1 → Contains contents content
+only_there : (contents : List Content) (content : Content) → length contents ≡ 1 → Contains contents content
     → content ≡ newest contents
-alone_there [] content one there = absurd (omega (arith, one))
-alone_there (c ∷ []) content one there = sym (one_member c content there)
-alone_there (c ∷ (d ∷ later)) content one there = absurd (omega (arith, one))
+only_there [] content one there = absurd (omega (arith, one))
+only_there (c ∷ []) content one there = sym (one_member c content there)
+only_there (c ∷ (d ∷ later)) content one there = absurd (omega (arith, one))
 
 module _ (g : Geometry) (d : Device) (tree : Tree) (boot : ℕ) (holds : HoldsAtHome g d tree boot) where
   least : 1024 ≤ d.size
@@ -142,7 +142,7 @@ module _ (g : Geometry) (d : Device) (tree : Tree) (boot : ℕ) (holds : HoldsAt
 
   module _ (image : Image) (is : IsCrashImage d d.clock image) where
     same : (block : ℕ) → block < d.size → image block ≡ image_of d block
-    same block within = alone_there (current d block) (image block) (holds.rest.one block within) (is block within)
+    same block within = only_there (current d block) (image block) (holds.rest.one block within) (is block within)
 
     starts : start_in image ≡ start_in (image_of d)
     starts = ap (λ c. number_at c 0) (same START_BLOCK (let some = least in omega (arith, some)))
@@ -187,7 +187,7 @@ rest_then a b reads rest = record {
   one = λ block within.
       ap (λ (cs : List Content). length cs) (reads.during b.clock block reads.clock (omega arith))
       ∙ rest.one block (omega (arith, within, reads.size));
-  unspoiled = λ block. reads.spoiled block ∙ rest.unspoiled block;
+  certain = λ block. reads.uncertain block ∙ rest.certain block;
 }
 
 pub home_then : (g : Geometry) (a b : Device) (tree : Tree) (boot : ℕ) → HasOnlyRead a b
@@ -232,7 +232,7 @@ next_home g a b tree next boot objects holds size home came stands stamps = reco
   empty = ap (λ c. number_at c 0) (behind START_BLOCK (omega arith)) ∙ holds.empty
       ∙ sym (ap (λ c. number_at c 0) (behind LOG_HEADER_BLOCK (omega arith)));
   stands = subst (λ blocks. Stands g blocks next)
-      (all_laid g.blocks (image_of a) objects
+      (all_overlaid g.blocks (image_of a) objects
       (subst (λ n. All (λ (object : ObjectBytes). IsHomeOn n object.addr.block) objects) (sym holds.size_is) home)
       ∙ ap (λ (image : Image). homes_of g.blocks image) (sym came.newest)) stands;
   stamps = stamps;
@@ -240,4 +240,4 @@ next_home g a b tree next boot objects holds size home came stands stamps = reco
   where
     behind : (block : ℕ) → block < FIRST_HOME_BLOCK → image_of b block ≡ image_of a block
     behind block before =
-        ap (λ (image : Image). image block) came.newest ∙ laid_behind a.size (image_of a) objects block before home
+        ap (λ (image : Image). image block) came.newest ∙ overlaid_behind a.size (image_of a) objects block before home

@@ -21,11 +21,11 @@ use Rattle.circ.specs.Log.EightBytes.{number_at, with_number}
 use Rattle.circ.specs.Log.Law.{with_changes}
 use Rattle.circ.specs.Log.Log.{IsHomeOn, blocks_of, changes_of, newest_of, opened}
 use Rattle.circ.specs.Log.Overlay.{HasHomes, IsInRange, content_or, end_in, logged_in, over, start_in}
-use Rattle.circ.specs.Log.Recovery.{HasOnlyRead, IsUnspoiled, image_of}
+use Rattle.circ.specs.Log.Recovery.{HasOnlyRead, IsCertain, image_of}
 use Rattle.circ.specs.declared.log.change.LogChange.{LogChange}
 use Rattle.circ.proofs.LogLemmas.EightBytes.{number_at-same}
 use Rattle.circ.proofs.LogLemmas.Lawful.{homes_of_group}
-use Rattle.circ.proofs.LogLemmas.OnlyRead.{reads_then, unspoiled_then}
+use Rattle.circ.proofs.LogLemmas.OnlyRead.{reads_then, certain_then}
 use Rattle.store_promise.specs.declared.fault.OpenFault.{OpenFault}
 use Rattle.store_promise.specs.declared.fault.OpenFault.TheVariants as fault
 use Rattle.store_promise.specs.Openings.{IsCauseOf, IsRefusedFor, ShowsNoCause}
@@ -43,10 +43,10 @@ differs a b other = grind (arith, nat_tests)
 
 -- ---- what the image is then
 
-module _ (image : Image) (logged : List (BlockNo × Content)) (end : ℕ) (raised : Content) (size : ℕ)
+module _ (image : Image) (logged : List (BlockNo × Content)) (end : ℕ) (incremented : Content) (size : ℕ)
     (homes : All (IsHomeOn size) (blocks_of logged)) where
   abbrev next : Image
-  next = with_log_home image logged end raised
+  next = with_log_home image logged end incremented
 
   -- what lies before the homes isn't logged
   unlogged : (block : ℕ) → block < FIRST_HOME_BLOCK → with_changes image (changes_of 0 logged) block ≡ image block
@@ -66,7 +66,7 @@ module _ (image : Image) (logged : List (BlockNo × Content)) (end : ℕ) (raise
 
   at_home : logged ≡ logged_in image → (number : ℕ) → FIRST_HOME_BLOCK ≤ number → next number ≡ over image number
   at_home is number from =
-      ap (λ (t : Bool). if t then raised
+      ap (λ (t : Bool). if t then incremented
       else (if nat_eq number START_BLOCK then with_number (replicate BLOCK_BYTES 0) 0 end
       else with_changes image (changes_of 0 logged) number))
       (differs number SUPER_BLOCK (λ same. omega (arith, same, from)))
@@ -84,7 +84,7 @@ module _ (image : Image) (logged : List (BlockNo × Content)) (end : ℕ) (raise
 -- ---- so it holds the tree
 
 module _ (before mid now later : Device) (tree : Tree) (first : ℕ) (holds : HoldsTree before tree first)
-    (one : HasOnlyRead before mid) (two : HasOnlyRead mid now) (found raised : Super) (content : Content)
+    (one : HasOnlyRead before mid) (two : HasOnlyRead mid now) (found incremented : Super) (content : Content)
     (logged : List (BlockNo × Content)) (end : ℕ) where
   mid_is : image_of mid ≡ image_of before
   mid_is = image_same before mid one
@@ -93,11 +93,11 @@ module _ (before mid now later : Device) (tree : Tree) (first : ℕ) (holds : Ho
   now_is = image_same mid now two ∙ mid_is
 
   pub begins_at_home : IsSuper (image_of before SUPER_BLOCK) found → found.geometry.blocks ≡ before.size
-      → raised.geometry ≡ newest found.geometry → raised.boot ≡ found.boot + 1 → IsSuper content raised
+      → incremented.geometry ≡ newest found.geometry → incremented.boot ≡ found.boot + 1 → IsSuper content incremented
       → IsLogOf mid.size (image_of mid) logged end → All (IsHomeOn now.size) (blocks_of logged) → end < 2 ^ 64
       → later.size ≡ now.size → HasComeHome now later (with_log_home (image_of now) logged end content)
       → HoldsAtHome (newest found.geometry) later tree (first + 1)
-  begins_at_home is_super blocks geometry boot is_raised log homes fits size came =
+  begins_at_home is_super blocks geometry boot is_incremented log homes fits size came =
       let image_is : image_of later ≡ with_log_home (image_of before) logged end content =
       came.newest ∙ ap (λ (image : Image). with_log_home image logged end content) now_is in
       let sound = good before tree first holds in
@@ -111,8 +111,8 @@ module _ (before mid now later : Device) (tree : Tree) (first : ℕ) (holds : Ho
       let end_is : end ≡ end_in (image_of before) = log.end_is ∙ ap (λ (image : Image). end_in image) mid_is in
       record {
         rest = came.rest (rest_then mid now two (rest_then before mid one holds.rest));
-        super = raised;
-        is_super = subst (λ (image : Image). IsSuper (image SUPER_BLOCK) raised) (sym image_is) is_raised;
+        super = incremented;
+        is_super = subst (λ (image : Image). IsSuper (image SUPER_BLOCK) incremented) (sym image_is) is_incremented;
         geometry_is = geometry;
         size_is = blocks ∙ sym sizes;
         boot_is = boot ∙ ap (λ n. n + 1) (is_super.boot ∙ sym sound.is_super.boot ∙ sound.boot_is);
@@ -153,39 +153,39 @@ counts_along fault.Log before mid later same counts = counts ∙ same
 
 module _ (keeps_model : Type 0) (before mid later : Device) (found : Super) (one : HasOnlyRead before mid)
     (two : HasOnlyRead mid later) (blocks : found.geometry.blocks ≡ before.size) (left : found.boot + 1 < 2 ^ 64)
-    (is_super : keeps_model → IsUnspoiled before → IsSuper (image_of before SUPER_BLOCK) found)
+    (is_super : keeps_model → IsCertain before → IsSuper (image_of before SUPER_BLOCK) found)
     (same : mid.failures ≡ before.failures) where
   -- no log was found
   pub refused_log : (cause : OpenFault)
-      → HasNoLog (keeps_model × IsUnspoiled mid) cause mid.size (image_of mid) → CountsCause cause mid later
+      → HasNoLog (keeps_model × IsCertain mid) cause mid.size (image_of mid) → CountsCause cause mid later
       → IsRefusedFor keeps_model cause before later
   refused_log cause none counts =
       no_log keeps_model before mid later found one two blocks left is_super cause
-      (subst (λ n. HasNoLog (keeps_model × IsUnspoiled mid) cause n (image_of mid)) (one.size ∙ sym blocks) none)
+      (subst (λ n. HasNoLog (keeps_model × IsCertain mid) cause n (image_of mid)) (one.size ∙ sym blocks) none)
       counts same
 
   pub refused_begins_log : (cause : OpenFault)
-      → HasNoLog (keeps_model × IsUnspoiled mid) cause mid.size (image_of mid) → CountsCause cause mid later
+      → HasNoLog (keeps_model × IsCertain mid) cause mid.size (image_of mid) → CountsCause cause mid later
       → (tree : Tree) (first : ℕ) → HoldsTree before tree first → keeps_model → AreBlocks later
       → Begins before later tree first (Err cause)
-  refused_begins_log cause none counts tree first holds kept whole =
+  refused_begins_log cause none counts tree first holds is_preserved whole =
       let reads = reads_then before mid later one two in
       refused_begins before later tree first cause
-      (read_refused before tree first holds keeps_model cause later kept whole reads
+      (read_refused before tree first holds keeps_model cause later is_preserved whole reads
       (counts_along cause before mid later same counts) (refused_log cause none counts)).because
       (tree_then before later tree first reads holds)
 
   -- the log was found
   pub shows_nothing : (logged : List (BlockNo × Content)) (end : ℕ)
-      → (keeps_model → IsUnspoiled mid → IsLogOf mid.size (image_of mid) logged end) → keeps_model
-      → IsUnspoiled before → ShowsNoCause before.size (image_of before)
-  shows_nothing logged end was kept clean =
+      → (keeps_model → IsCertain mid → IsLogOf mid.size (image_of mid) logged end) → keeps_model
+      → IsCertain before → ShowsNoCause before.size (image_of before)
+  shows_nothing logged end was is_preserved clean =
       let image_is : image_of mid ≡ image_of before = image_same before mid one in
-      let log = was kept (unspoiled_then before mid one clean) in
+      let log = was is_preserved (certain_then before mid one clean) in
       shows_none keeps_model before mid later found one two blocks left is_super
       (opened before.size (start_in (image_of before)) (logged_in (image_of before)))
       (record {
-        is_super = is_super kept clean;
+        is_super = is_super is_preserved clean;
         range = subst IsInRange image_is log.range;
         homes = subst (λ n. HasHomes n (image_of before)) one.size
             (subst (λ (image : Image). HasHomes mid.size image) image_is log.homes);

@@ -21,35 +21,35 @@ use Rattle.store_images.proofs.ReplaysLemmas.AtHome.{holds_tree, home_then}
 one_more : (tree middle next : Tree) (entries : List (Ctx × Call)) (entry : Ctx × Call)
     → after_entries tree entries middle → leads (begins_transaction entry.1) middle entry.0 entry.1 next
     → after_entries tree (entries ++ entry ∷ []) next
-one_more tree middle next [] entry before led = (
+one_more tree middle next [] entry before transition = (
   next,
-  subst (λ t. leads (begins_transaction entry.1) t entry.0 entry.1 next) before led,
+  subst (λ t. leads (begins_transaction entry.1) t entry.0 entry.1 next) before transition,
   refl,
 )
-one_more tree middle next (first ∷ entries) entry before led =
-    (before.0, before.1, one_more before.0 middle next entries entry before.2 led)
+one_more tree middle next (first ∷ entries) entry before transition =
+    (before.0, before.1, one_more before.0 middle next entries entry before.2 transition)
 
 pub entries_more : (tree middle next : Tree) (entries : List (Ctx × Call)) (index : ℕ) (entry : Ctx × Call)
     → index < length entries → entry ≡ get_or entries index entry → after_entries tree (take index entries) middle
     → leads (begins_transaction entry.1) middle entry.0 entry.1 next
     → after_entries tree (take (index + 1) entries) next
-entries_more tree middle next entries index entry less is before led =
+entries_more tree middle next entries index entry less is before transition =
     subst (λ es. after_entries tree es next)
     (ap (λ (x : Ctx × Call). take index entries ++ x ∷ []) is ∙ sym (take_more entries index entry less))
-    (one_more tree middle next (take index entries) entry before led)
+    (one_more tree middle next (take index entries) entry before transition)
 
 -- an entry failed behind others
 pub goes_so_far : (g : Geometry) (mid later : Device) (tree left : Tree) (boot : ℕ) (entries : List (Ctx × Call))
     (index : ℕ) (cause : OpenFault) → after_entries tree (take index entries) left → HoldsAtHome g mid left boot
     → (IsErrOf {T = Unit {0}} (Err cause) fault.NoMemory → HasOnlyRead mid later)
     → GoesThrough g later tree boot entries (Err cause)
-goes_so_far g mid later tree left boot entries index fault.NoMemory led holds reads =
-    (index, left, led, home_then g mid later left boot (reads refl) holds)
-goes_so_far g mid later tree left boot entries index fault.Device led holds reads = tt
-goes_so_far g mid later tree left boot entries index fault.Magic led holds reads = tt
-goes_so_far g mid later tree left boot entries index fault.Version led holds reads = tt
-goes_so_far g mid later tree left boot entries index fault.Range led holds reads = tt
-goes_so_far g mid later tree left boot entries index fault.Log led holds reads = tt
+goes_so_far g mid later tree left boot entries index fault.NoMemory transition holds reads =
+    (index, left, transition, home_then g mid later left boot (reads refl) holds)
+goes_so_far g mid later tree left boot entries index fault.Device transition holds reads = tt
+goes_so_far g mid later tree left boot entries index fault.Magic transition holds reads = tt
+goes_so_far g mid later tree left boot entries index fault.Version transition holds reads = tt
+goes_so_far g mid later tree left boot entries index fault.Range transition holds reads = tt
+goes_so_far g mid later tree left boot entries index fault.Log transition holds reads = tt
 
 -- ---- what comes of all
 
@@ -59,7 +59,7 @@ pub none_replayed : (later : Device) (tree : Tree) (first : ℕ) (entries : List
 none_replayed later tree first entries holds = record {
   count = 0;
   left = tree;
-  led = refl;
+  transition = refl;
   boot = first;
   boot_is = inl refl;
   holds = holds;
@@ -90,7 +90,7 @@ module _ (g : Geometry) (before mid later : Device) (tree : Tree) (first : ℕ) 
     record {
       count = through.0;
       left = through.1;
-      led = through.2;
+      transition = through.2;
       boot = first + 1;
       boot_is = inr refl;
       holds = holds_tree g later through.1 (first + 1) through.3;

@@ -8,7 +8,7 @@ use Rattle.std.proofs.lemmas.List.{get_or-map, length-drop, length-map, take_mor
 use Rattle.std.proofs.lemmas.List.Elements.{All-get_or}
 use Rattle.base.specs.declared.TheConstants.{BLOCK_BYTES, LOG_HEADER_BLOCK, START_BLOCK, SUPER_BLOCK}
 use Rattle.disk.specs.Crash.{Image, IsAtRest}
-use Rattle.disk.specs.Device.{Content, Device, HasRead, HasSettled, current, is_on, newest, newest_alone}
+use Rattle.disk.specs.Device.{Content, Device, HasRead, HasSettled, current, is_on, newest, newest_only}
 use Rattle.disk.specs.declared.block.BlockNo.{BlockNo}
 use Rattle.disk.specs.declared.block.Side.TheVariants.{Home, Log}
 use Rattle.disk.specs.declared.device.Failed.{Failed}
@@ -21,24 +21,24 @@ use Rattle.circ.specs.Log.Effects.{newest_in}
 use Rattle.circ.specs.Log.Law.{with_changes, with_home}
 use Rattle.circ.specs.Log.Log.{IsHomeOn, blocks_of, changes_of, newest_of, or_else}
 use Rattle.circ.specs.Log.Overlay.{content_or}
-use Rattle.circ.specs.Log.Recovery.{IsUnspoiled, image_of}
+use Rattle.circ.specs.Log.Recovery.{IsCertain, image_of}
 use Rattle.circ.specs.declared.log.change.LogChange.{LogChange}
 use Rattle.circ.proofs.LogLemmas.Newest.{newest_of-append}
 use Rattle.store_images.specs.Replays.Putting.{HasComeHome, HasPut, with_log_home}
 
 pub put_none : (d : Device) → HasPut d d (image_of d)
-put_none d = record { newest = refl; spoiled = λ block. refl; some = λ block some. some; log = λ block on. refl }
+put_none d = record { newest = refl; uncertain = λ block. refl; some = λ block some. some; log = λ block on. refl }
 
 pub put_then : (a b c : Device) (one two : Image) → HasPut a b one → HasPut b c two → HasPut a c two
 put_then a b c one two first second = record {
   newest = second.newest;
-  spoiled = λ block. second.spoiled block ∙ first.spoiled block;
+  uncertain = λ block. second.uncertain block ∙ first.uncertain block;
   some = λ block some. second.some block (first.some block some);
   log = λ block on. second.log block on ∙ first.log block on;
 }
 
-pub put_clean : (a b : Device) (image : Image) → HasPut a b image → IsUnspoiled a → IsUnspoiled b
-put_clean a b image put clean block = put.spoiled block ∙ clean block
+pub put_clean : (a b : Device) (image : Image) → HasPut a b image → IsCertain a → IsCertain b
+put_clean a b image put clean block = put.uncertain block ∙ clean block
 
 -- ---- a block of the home side lies there
 
@@ -61,39 +61,39 @@ behind_log size block home = by_test (nat_lt block.0 START_BLOCK) refl
 -- ---- an object
 
 module _ (image : Image) (object : ObjectBytes) (number : ℕ) (at : number ≡ object.addr.block.0) where
-  abbrev laid : ℕ → Content
-  laid block = spliced (image block) object.addr.offset object.bytes
+  abbrev overlaid_content : ℕ → Content
+  overlaid_content block = spliced (image block) object.addr.offset object.bytes
 
-  beside : (block : ℕ) (t : Bool) → nat_eq block number ≡ t
-      → (if t then laid number else image block) ≡ (if t then laid block else image block)
-  beside block true is = ap laid (sym (same_number block number is))
-  beside block false is = refl
+  unaffected_by_write : (block : ℕ) (t : Bool) → nat_eq block number ≡ t
+      → (if t then overlaid_content number else image block) ≡ (if t then overlaid_content block else image block)
+  unaffected_by_write block true is = ap overlaid_content (sym (same_number block number is))
+  unaffected_by_write block false is = refl
 
-  laid_there : (block : ℕ) → with_home image number (laid number) block ≡ with_object image object block
-  laid_there block =
-      beside block (nat_eq block number) refl
-      ∙ ap (λ n. if nat_eq block n then laid block else image block) at
+  overlaid_there : (block : ℕ) → with_home image number (overlaid_content number) block ≡ with_object image object block
+  overlaid_there block =
+      unaffected_by_write block (nat_eq block number) refl
+      ∙ ap (λ n. if nat_eq block n then overlaid_content block else image block) at
 
-  pub object_laid : with_home image number (laid number) ≡ with_object image object
-  object_laid = λ i block. laid_there block i
+  pub object_overlaid : with_home image number (overlaid_content number) ≡ with_object image object
+  object_overlaid = λ i block. overlaid_there block i
 
 read_same : (a b : Device) → HasRead a b → image_of b ≡ image_of a
 read_same a b read = λ i block. newest (read.contents block i)
 
 -- a block was read, an object laid over it, and it was written
-pub put_laid : (a b c : Device) (object : ObjectBytes) (number : ℕ) (out content : Content)
+pub put_overlaid : (a b c : Device) (object : ObjectBytes) (number : ℕ) (out content : Content)
     (answer : Result Unit Failed) → number ≡ object.addr.block.0 → HasRead a b → out ≡ image_of a number
     → content ≡ spliced out object.addr.offset object.bytes
     → OnOk answer (HasPut b c (with_home (image_of b) number content))
     → OnOk answer (HasPut a c (with_object (image_of a) object))
-put_laid a b c object number out content (Err error) at read came laid put = tt
-put_laid a b c object number out content (Ok _) at read came laid put = record {
+put_overlaid a b c object number out content (Err error) at read came overlaid_content put = tt
+put_overlaid a b c object number out content (Ok _) at read came overlaid_content put = record {
   newest = put.newest
       ∙ ap (λ (image : Image). with_home image number content) (read_same a b read)
       ∙ ap (λ (bytes : Content). with_home (image_of a) number bytes)
-      (laid ∙ ap (λ (bytes : Content). spliced bytes object.addr.offset object.bytes) came)
-      ∙ object_laid (image_of a) object number at;
-  spoiled = λ block. put.spoiled block ∙ read.spoiled block;
+      (overlaid_content ∙ ap (λ (bytes : Content). spliced bytes object.addr.offset object.bytes) came)
+      ∙ object_overlaid (image_of a) object number at;
+  uncertain = λ block. put.uncertain block ∙ read.uncertain block;
   some = λ block some. put.some block (subst (λ (cs : List Content). 0 < length cs) (sym (read.contents block))
       some);
   log = λ block on. put.log block on ∙ read.contents block;
@@ -193,10 +193,10 @@ not_log block off = by_test (nat_le LOG_HEADER_BLOCK block) (nat_lt block START_
         let below : nat_lt block LOG_HEADER_BLOCK ≡ true = grind (arith, nat_tests) in
         ap (λ t. t || nat_le START_BLOCK block) below
 
-alone : (cs : List Content) → 0 < length cs → length (newest_alone cs) ≡ 1
-alone cs some = let gone = length-drop (length cs - 1) cs in omega (arith, gone, some)
+single_newest_left : (cs : List Content) → 0 < length cs → length (newest_only cs) ≡ 1
+single_newest_left cs some = let gone = length-drop (length cs - 1) cs in omega (arith, gone, some)
 
-either_newest : (on : Bool) (old new : List Content) → new ≡ (if on then newest_alone old else old)
+either_newest : (on : Bool) (old new : List Content) → new ≡ (if on then newest_only old else old)
     → newest new ≡ newest old
 either_newest true old new is = ap newest is ∙ newest_settled old
 either_newest false old new is = ap newest is
@@ -205,27 +205,27 @@ module _ (a b c : Device) (image : Image) (put : HasPut a b image) (settled : Ha
     (rest : IsAtRest a) where
   one_there : (block : ℕ) → length (current a block) ≡ 1 → (log : Bool) → is_on Log block ≡ log
       → length (current c block) ≡ 1
-  one_there block one true is = kept (is_on Home block) (settled.contents block)
+  one_there block one true is = is_preserved (is_on Home block) (settled.contents block)
     where
       same : current b block ≡ current a block
       same = put.log block is
 
-      kept : (on : Bool) → current c block ≡ (if on then newest_alone (current b block) else current b block)
+      is_preserved : (on : Bool) → current c block ≡ (if on then newest_only (current b block) else current b block)
           → length (current c block) ≡ 1
-      kept true now =
+      is_preserved true now =
           ap (λ (cs : List Content). length cs) now
-          ∙ alone (current b block) (omega (arith, ap (λ (cs : List Content). length cs) same, one))
-      kept false now =
+          ∙ single_newest_left (current b block) (omega (arith, ap (λ (cs : List Content). length cs) same, one))
+      is_preserved false now =
           ap (λ (cs : List Content). length cs) now ∙ ap (λ (cs : List Content). length cs) same ∙ one
   one_there block one false is =
       ap (λ (cs : List Content). length cs) (settled.contents block
-      ∙ ap (λ t. if t then newest_alone (current b block) else current b block) (not_log block is))
-      ∙ alone (current b block) (put.some block (omega (arith, one)))
+      ∙ ap (λ t. if t then newest_only (current b block) else current b block) (not_log block is))
+      ∙ single_newest_left (current b block) (put.some block (omega (arith, one)))
 
   at_rest : a.size ≡ c.size → IsAtRest c
   at_rest size = record {
     one = λ block within. one_there block (rest.one block (omega (arith, within, size))) (is_on Log block) refl;
-    unspoiled = λ block. settled.spoiled block ∙ put.spoiled block ∙ rest.unspoiled block;
+    certain = λ block. settled.uncertain block ∙ put.uncertain block ∙ rest.certain block;
   }
 
 pub comes_home : (a b c : Device) (image : Image) (answer : Result Unit Failed) → c.size ≡ a.size
@@ -240,12 +240,12 @@ comes_home a b c image (Ok _) size put settled = record {
 
 -- ---- what a beginning writes
 
-pub begun_put : (a b c d : Device) (logged : List (BlockNo × Content)) (end : ℕ) (raised start super : Content)
-    → start ≡ with_number (replicate BLOCK_BYTES 0) 0 end → super ≡ raised
+pub begun_put : (a b c d : Device) (logged : List (BlockNo × Content)) (end : ℕ) (incremented start super : Content)
+    → start ≡ with_number (replicate BLOCK_BYTES 0) 0 end → super ≡ incremented
     → HasPut a b (with_changes (image_of a) (changes_of 0 logged))
     → HasPut b c (with_home (image_of b) START_BLOCK start)
-    → HasPut c d (with_home (image_of c) SUPER_BLOCK super) → HasPut a d (with_log_home (image_of a) logged end raised)
-begun_put a b c d logged end raised start super start_is super_is first second third =
+    → HasPut c d (with_home (image_of c) SUPER_BLOCK super) → HasPut a d (with_log_home (image_of a) logged end incremented)
+begun_put a b c d logged end incremented start super start_is super_is first second third =
     let homes : Image = with_changes (image_of a) (changes_of 0 logged) in
     let started : Image = with_home homes START_BLOCK (with_number (replicate BLOCK_BYTES 0) 0 end) in
     subst (λ (image : Image). HasPut a d image)

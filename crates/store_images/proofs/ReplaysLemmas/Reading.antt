@@ -58,11 +58,11 @@ module _ (size : ℕ) (image : Image) (old new : Snap) (addr : Addr) (mode : Mod
       ]
 
 -- so it is in all that was read, since nothing has changed
-pub saw_then : (size : ℕ) (first mid : Device) (old room new : Snap) → size ≡ first.size → HasOnlyRead first mid
-    → room.objects.items ≡ old.objects.items
-    → (Saw (homes_of mid.size (image_of mid)) room → Saw (homes_of mid.size (image_of mid)) new)
+pub saw_then : (size : ℕ) (first mid : Device) (old reserved_snap new : Snap) → size ≡ first.size → HasOnlyRead first mid
+    → reserved_snap.objects.items ≡ old.objects.items
+    → (Saw (homes_of mid.size (image_of mid)) reserved_snap → Saw (homes_of mid.size (image_of mid)) new)
     → Saw (homes_of size (image_of first)) old → Saw (homes_of size (image_of first)) new
-saw_then size first mid old room new size_is reads objects more saw =
+saw_then size first mid old reserved_snap new size_is reads objects more saw =
     let same : homes_of size (image_of first) ≡ homes_of mid.size (image_of mid) =
     ap (λ n. homes_of n (image_of first)) (size_is ∙ sym reads.size)
     ∙ ap (λ (image : Image). homes_of mid.size image) (sym (image_same first mid reads)) in
@@ -73,27 +73,27 @@ saw_then size first mid old room new size_is reads objects more saw =
 -- ---- each round leaves less to be asked for
 
 -- all that was read was asked for
-pub read_more : (g : Geometry) (old room new : Snap) (addr : Addr) (mode : Mode) → room.geometry ≡ g
-    → room.objects.items ≡ old.objects.items → HasAdded addr mode room new → WereAskedOnce g old.objects.items
-    → Asks room.geometry addr → WereAskedOnce g new.objects.items
-read_more g old room new addr mode geometry objects added were asks =
+pub read_more : (g : Geometry) (old reserved_snap new : Snap) (addr : Addr) (mode : Mode) → reserved_snap.geometry ≡ g
+    → reserved_snap.objects.items ≡ old.objects.items → HasAdded addr mode reserved_snap new → WereAskedOnce g old.objects.items
+    → Asks reserved_snap.geometry addr → WereAskedOnce g new.objects.items
+read_more g old reserved_snap new addr mode geometry objects added were asks =
     subst (λ (xs : List ObjectBytes). WereAskedOnce g xs) (sym added.objects)
-    (read_once g room.objects.items addr added.bytes
+    (read_once g reserved_snap.objects.items addr added.bytes
     (subst (λ (xs : List ObjectBytes). WereAskedOnce g xs) (sym objects) were)
     (subst (λ (h : Geometry). Asks h addr) geometry asks))
 
 -- what is asked for then was asked for less often before
-pub more_often : (old room new : Snap) (addr : Addr) (mode : Mode) → room.objects.items ≡ old.objects.items
-    → room.alone.items ≡ old.alone.items → HasAdded addr mode room new
-    → is_had addr mode room.objects.items room.alone.items ≡ false
-    → times_asked old.objects.items old.alone.items < times_asked new.objects.items new.alone.items
-more_often old room new addr mode objects alone added unhad =
-    subst (λ (xs : List ObjectBytes). times_asked xs old.alone.items < times_asked new.objects.items new.alone.items) objects
-    (subst (λ (xs : List Addr). times_asked room.objects.items xs < times_asked new.objects.items new.alone.items) alone
-    (subst (λ (xs : List ObjectBytes). times_asked room.objects.items room.alone.items < times_asked xs new.alone.items)
-    (sym added.objects) (subst (λ (xs : List Addr). times_asked room.objects.items room.alone.items
-    < times_asked (with_read addr added.bytes room.objects.items) xs) (sym added.alone)
-    (asked_more addr mode added.bytes room.objects.items room.alone.items unhad))))
+pub more_often : (old reserved_snap new : Snap) (addr : Addr) (mode : Mode) → reserved_snap.objects.items ≡ old.objects.items
+    → reserved_snap.exclusives.items ≡ old.exclusives.items → HasAdded addr mode reserved_snap new
+    → is_had addr mode reserved_snap.objects.items reserved_snap.exclusives.items ≡ false
+    → times_asked old.objects.items old.exclusives.items < times_asked new.objects.items new.exclusives.items
+more_often old reserved_snap new addr mode objects exclusives added unhad =
+    subst (λ (xs : List ObjectBytes). times_asked xs old.exclusives.items < times_asked new.objects.items new.exclusives.items) objects
+    (subst (λ (xs : List Addr). times_asked reserved_snap.objects.items xs < times_asked new.objects.items new.exclusives.items) exclusives
+    (subst (λ (xs : List ObjectBytes). times_asked reserved_snap.objects.items reserved_snap.exclusives.items < times_asked xs new.exclusives.items)
+    (sym added.objects) (subst (λ (xs : List Addr). times_asked reserved_snap.objects.items reserved_snap.exclusives.items
+    < times_asked (with_read addr added.bytes reserved_snap.objects.items) xs) (sym added.exclusives)
+    (asked_more addr mode added.bytes reserved_snap.objects.items reserved_snap.exclusives.items unhad))))
 
 pub less_left : (asked claimed objects claims more_objects more_claims : ℕ)
     → objects + claims < more_objects + more_claims → more_objects ≤ asked → more_claims ≤ claimed
@@ -152,6 +152,6 @@ module _ (g : Geometry) (lie : (addr : Addr) → Asks g addr → IsHomeOn g.bloc
     where
       by : (addr : Addr) → MayWrite snap addr → IsHomeOn g.blocks addr.block
       by addr (inl had) = seen_home addr snap.objects.items read.asked
-          (first_of (is_seen addr snap.objects.items) (is_among addr snap.alone.items) had)
+          (first_of (is_seen addr snap.objects.items) (is_among addr snap.exclusives.items) had)
       by addr (inr whole) = lie addr (claimed_object g addr.block addr
           (claimed_data addr.block snap.claims.items claimed.asked whole.0) whole.1)

@@ -67,7 +67,7 @@ pub record HasAdded (addr : Addr) (mode : Mode) (old new : Snap) : Type 0 where
   pub bytes : List ℕ
   pub geometry : new.geometry ≡ old.geometry
   pub objects : new.objects.items ≡ with_read addr bytes old.objects.items
-  pub alone : new.alone.items ≡ with_mode addr mode old.alone.items
+  pub exclusives : new.exclusives.items ≡ with_mode addr mode old.exclusives.items
   pub claims : new.claims.items ≡ old.claims.items
 
 -- Where these blocks stand for a tree, what came of a call is a step from there, and the blocks with what it writes stand

@@ -14,7 +14,7 @@ use Rattle.circ.specs.Log.Recovery.{image_of}
 -- has lost its last one, and the log side is as it was.
 pub record HasPut (old new : Device) (image : Image) : Type 0 where
   pub newest : image_of new ≡ image
-  pub spoiled : (block : ℕ) → new.spoiled block ≡ old.spoiled block
+  pub uncertain : (block : ℕ) → new.uncertain block ≡ old.uncertain block
   pub some : (block : ℕ) → 0 < length (current old block) → 0 < length (current new block)
   pub log : (block : ℕ) → is_on Log block ≡ true → current new block ≡ current old block
 
@@ -25,6 +25,6 @@ pub record HasComeHome (old new : Device) (image : Image) : Type 0 where
 
 -- the image with the blocks of its log at home, a log that begins where it ends, and a super block
 abbrev pub with_log_home : Image → List (BlockNo × Content) → ℕ → Content → Image
-with_log_home image logged end raised = with_home
+with_log_home image logged end incremented = with_home
     (with_home (with_changes image (changes_of 0 logged)) START_BLOCK (with_number (replicate BLOCK_BYTES 0) 0 end))
-    SUPER_BLOCK raised
+    SUPER_BLOCK incremented

@@ -53,7 +53,7 @@ GoesThrough g later tree boot entries (Err cause) = Unit {0}
 pub record HoldsBeginning (later : Device) (tree : Tree) (first : ℕ) (entries : List (Ctx × Call)) : Type 0 where
   pub count : ℕ
   pub left : Tree
-  pub led : after_entries tree (take count entries) left
+  pub transition : after_entries tree (take count entries) left
   pub boot : ℕ
   pub boot_is : IsBootOf first boot
   pub holds : HoldsTree later left boot

@@ -43,13 +43,13 @@ found_of : (before later : Device) (tree : Tree) (boot workers : ℕ) (events : 
     (answer : Result Report OpenFault) → ComesOfRun before later tree boot workers events answer
     → (image : Image) × IsCrashImage before before.clock image
 found_of before later tree boot workers events (Ok report) came =
-    let keeps = came.keeps in
-    let first = keeps.opens.is.past.clock in
-    let second = keeps.opens.past.clock in
-    let left = keeps.stops.some before.clock (omega arith) (omega (arith, first, second)) in (
+    let preserves = came.preserves in
+    let first = preserves.opens.is.past.clock in
+    let second = preserves.opens.past.clock in
+    let left = preserves.stops.some before.clock (omega arith) (omega (arith, first, second)) in (
       left.0,
-      still_left before keeps.opened keeps.opens.is.past before.clock (omega arith) left.0
-          (still_left keeps.opened later keeps.opens.past before.clock first left.0 left.1),
+      still_left before preserves.opened preserves.opens.is.past before.clock (omega arith) left.0
+          (still_left preserves.opened later preserves.opens.past before.clock first left.0 left.1),
     )
 found_of before later tree boot workers events (Err cause) came =
     let clock = came.past.clock in
@@ -65,8 +65,8 @@ own_of : (before later : Device) (tree : Tree) (boot workers crash : ℕ) (event
     (answer : Result Report OpenFault) → ComesOfRun before later tree boot workers events answer
     → IsOfOneBoot (boot + 1) (committed_by later.clock crash answer)
 own_of before later tree boot workers crash events (Ok report) came =
-    beginning (boot + 1) _ (entries_of report.told)
-    (of_one_boot events report.told (boot + 1) came.keeps.replies.boot came.keeps.replies.history)
+    beginning (boot + 1) _ (entries_of report.run_transcript)
+    (of_one_boot events report.run_transcript (boot + 1) came.preserves.replies.boot came.preserves.replies.history)
 own_of before later tree boot workers crash events (Err cause) came = record {
   boots = tt;
   numbers = λ one other a b is so same. cc;
@@ -77,7 +77,7 @@ own_of before later tree boot workers crash events (Err cause) came = record {
 -- the boot number of an image that a crash left, with the tree that it has
 record HasLeft (tree : Tree) (boot : ℕ) (entries : List Entry) (left : Tree) (now : ℕ) : Type 0 where
   pub boot_is : (now ≡ boot) ⊎ (now ≡ boot + 1)
-  pub raised : 0 < length entries → now ≡ boot + 1
+  pub boot_incremented : 0 < length entries → now ≡ boot + 1
   pub kept : ℕ
   pub few : kept ≤ length entries
   pub prefix : after tree (take kept entries) left
@@ -93,21 +93,21 @@ left_of : (before later : Device) (tree : Tree) (boot workers crash : ℕ) (even
     → before.clock ≤ crash → crash ≤ later.clock → IsCrashImage later crash image
     → LeftGood later.size image tree boot (committed_by later.clock crash answer)
 left_of before later tree boot workers crash events (Ok report) image came from to there =
-    let keeps = came.keeps in
-    let stop = keeps.stops.each crash image from to there in
+    let preserves = came.preserves in
+    let stop = preserves.stops.each crash image from to there in
     let p = stop.prefix in
-    let t = report.told in
-    let start = keeps.opened.clock in
-    let calls = keeps.calls.clock in
+    let t = report.run_transcript in
+    let start = preserves.opened.clock in
+    let calls = preserves.calls.clock in
     let began : later.clock - device_calls t (length t.steps) ≡ start = omega (arith, calls) in
-    by t start _ (sym began) p.boot p.left p.count p.good p.boot_is.either p.boot_is.raised p.few p.prefix
+    by t start _ (sym began) p.boot p.left p.count p.good p.boot_is.either p.boot_is.boot_incremented p.few p.prefix
   where
     by : (t : Transcript) (start begins : ℕ) → start ≡ begins → (now : ℕ) (left : Tree) (count : ℕ)
         → IsGoodImage later.size image left now → (now ≡ boot) ⊎ (now ≡ boot + 1)
         → (start ≤ crash → now ≡ boot + 1) → count ≤ commits_by start t crash
         → after tree (take count (entries_of t)) left
         → LeftGood later.size image tree boot (take (commits_by begins t crash) (entries_of t))
-    by t start begins same now left count good either raised few prefix =
+    by t start begins same now left count good either boot_incremented few prefix =
         let most : commits_by start t crash ≡ commits_by begins t crash = ap (λ n. commits_by n t crash) same in
         let long = counted_length t begins crash in
         let within : count ≤ commits_by begins t crash = omega (arith, few, most) in
@@ -117,10 +117,10 @@ left_of before later tree boot workers crash events (Ok report) image came from 
           good = good;
           has = record {
             boot_is = either;
-            raised = λ some.
+            boot_incremented = λ some.
                 let committed : 0 < commits_by begins t crash = omega (arith, some, long) in
                 let by_then = begun t begins crash committed in
-                raised (omega (arith, by_then, same));
+                boot_incremented (omega (arith, by_then, same));
             kept = count;
             few = omega (arith, within, long);
             prefix = subst (λ es. after tree es left)
@@ -128,13 +128,13 @@ left_of before later tree boot workers crash events (Ok report) image came from 
           };
         }
 left_of before later tree boot workers crash events (Err cause) image came from to there =
-    let kept = came.keeps crash image from to there in record {
+    let kept = came.preserves crash image from to there in record {
       left = tree;
       now = kept.boot;
       good = kept.good;
       has = record {
         boot_is = kept.boot_is;
-        raised = λ some. absurd (omega (arith, some));
+        boot_incremented = λ some. absurd (omega (arith, some));
         kept = 0;
         few = omega arith;
         prefix = refl;
@@ -159,7 +159,7 @@ leaves run next was was_next l =
         → Leaves (counted run) (record { boot = later; tree = other; entries = (counted next).entries })
     moved one other now later trees boots has = record {
       boot = subst (λ n. (n ≡ run.boot) ⊎ (n ≡ run.boot + 1)) boots has.boot_is;
-      raised = λ some. sym boots ∙ has.raised some;
+      boot_incremented = λ some. sym boots ∙ has.boot_incremented some;
       kept = has.kept;
       few = has.few;
       prefix = subst (after run.tree (take has.kept (counted run).entries)) trees has.prefix;

@@ -21,7 +21,7 @@ use Rattle.store_promise.specs.Headline.{MayRun}
 use Rattle.store_promise.specs.Schedule.{Schedule, SoundEvents}
 
 rests : (size : ℕ) (image : Image) → IsAtRest (still size image)
-rests size image = record { one = λ block inside. refl; unspoiled = λ block. refl }
+rests size image = record { one = λ block inside. refl; certain = λ block. refl }
 
 -- whatever a crash leaves of it has its blocks
 one_left : (xs : List Content) (x y : Content) → xs ≡ x ∷ [] → Contains xs y → y ≡ x
@@ -39,16 +39,16 @@ module _ (g : Geometry) (moment : Moment) (image left : Image) (lawful : IsLawfu
     (same : (block : ℕ) → block < g.blocks → left block ≡ image block) where
   homes_too : HasFreshHomes g moment image → HasFreshHomes g moment left
   homes_too homes =
-      let room = lawful.1.3 in
+      let has_space = lawful.1.3 in
       let least = lawful.0.0 in
       let some = lawful.1.0 in
       record {
         bytes = λ number from to. subst (λ c. (length c ≡ BLOCK_BYTES) × AreBytes c) (sym (same number to))
             (homes.bytes number from to);
-        blocks = λ k less. same (FIRST_HOME_BLOCK + k) (omega (arith, room, less)) ∙ homes.blocks k less;
-        inodes = λ k less. same (inode_bitmap_at g.blocks + k) (omega (arith, room, less)) ∙ homes.inodes k less;
-        root = same (table_at g.blocks g.inodes) (omega (arith, room)) ∙ homes.root;
-        free = λ k some less. same (table_at g.blocks g.inodes + k) (omega (arith, room, less))
+        blocks = λ k less. same (FIRST_HOME_BLOCK + k) (omega (arith, has_space, less)) ∙ homes.blocks k less;
+        inodes = λ k less. same (inode_bitmap_at g.blocks + k) (omega (arith, has_space, less)) ∙ homes.inodes k less;
+        root = same (table_at g.blocks g.inodes) (omega (arith, has_space)) ∙ homes.root;
+        free = λ k some less. same (table_at g.blocks g.inodes + k) (omega (arith, has_space, less))
             ∙ homes.free k some less;
       }
 

@@ -41,7 +41,7 @@ stays : (o : StoppedOpening) (tree : Tree) (first most clock : ℕ) (image : Ima
     → HoldsRisen o.before tree first most → o.before.clock ≤ clock → clock ≤ o.later.clock
     → IsCrashImage o.later clock image → StaysGood o.later.size first (most + 1) tree image
 stays o tree first most clock image is held from to there =
-    let kept = is.keeps tree held.boot held.holds clock image from to there in
+    let kept = is.preserves tree held.boot held.holds clock image from to there in
     risen_of o.later.size first most held.boot kept.boot tree image held.least held.risen kept.boot_is kept.good
 
 -- the image that a stop left, in a device that holds it, and nothing else

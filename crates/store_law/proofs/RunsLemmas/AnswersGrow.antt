@@ -13,78 +13,78 @@ use Rattle.store_promise.specs.declared.events.Step.{Step}
 use Rattle.store_promise.specs.declared.events.Step.TheVariants as step
 use Rattle.store_promise.specs.declared.transcript.Answer.{Answer}
 use Rattle.store_promise.specs.Progress.{Called, Planning, Refused, Stage, Waiting, is_idle}
-use Rattle.store_promise.specs.Schedule.{Schedule, Setting, Told, progress_before, told_after}
+use Rattle.store_promise.specs.Schedule.{Schedule, Setting, RunState, progress_before, state_after}
 use Rattle.store_promise.specs.EventSteps.{IsTaken}
 use Rattle.store_promise.specs.Schedule.{worker_of}
 use Rattle.store_promise.specs.Transcript.{Transcript, device_calls, step_at}
 use Rattle.store_promise.specs.Verdicts.{AreAnswers, HasVerdict, IsAnswer, IsReplyAt}
 use Rattle.store_law.specs.Runs.Ledger.{ArePlaced}
-use Rattle.store_law.specs.Runs.Noting.{IsAnswerOf, IsAnswerWith, Noted, ends_of, listed, told_now, with_noted}
+use Rattle.store_law.specs.Runs.Tracing.{IsAnswerOf, IsAnswerWith, Traced, ends_of, listed, state_now, with_traced}
 use Rattle.store_law.proofs.RunsLemmas.AnswersPlaces.{AnswerComes, answer_comes, is_placed, not_again}
 use Rattle.store_law.proofs.RunsLemmas.EntriesCommits.{seq}
-use Rattle.store_law.proofs.RunsLemmas.ToldGrows.{calls_earlier, committed_kept, one_longer, progress_earlier, step_kept}
-use Rattle.store_law.proofs.RunsLemmas.ToldGrows.{step_now}
-use Rattle.store_law.proofs.RunsLemmas.ToldGrows.{step_within, told_then}
+use Rattle.store_law.proofs.RunsLemmas.StateGrows.{calls_earlier, committed_preserved, one_longer, progress_earlier, step_preserved}
+use Rattle.store_law.proofs.RunsLemmas.StateGrows.{step_now}
+use Rattle.store_law.proofs.RunsLemmas.StateGrows.{step_within, state_moves}
 
 -- ---- a verdict stays
 
-module _ (t : Transcript) (noted : Noted) where
-  reply_kept : (place : Seq) (a : Answer) → IsReplyAt t place a → IsReplyAt (with_noted t noted) place a
-  reply_kept place a is = record {
+module _ (t : Transcript) (traced : Traced) where
+  reply_preserved : (place : Seq) (a : Answer) → IsReplyAt t place a → IsReplyAt (with_traced t traced) place a
+  reply_preserved place a is = record {
     entry = is.entry;
-    is_entry = committed_kept t noted place.0 is.entry is.is_entry;
+    is_entry = committed_preserved t traced place.0 is.entry is.is_entry;
     placed = is.placed;
-    told = is.told;
+    is_replied = is.is_replied;
   }
 
-  verdict_kept : (asked : Call) (stage : Stage) (made : Step) (a : Answer) → HasVerdict t asked stage made a
-      → HasVerdict (with_noted t noted) asked stage made a
-  verdict_kept asked (Called known) step.Replied a has = has
-  verdict_kept asked (Called known) (step.Begun (Err why)) a has = has
-  verdict_kept asked (Planning begun) (step.Commit blocks (committing.Committed place)) a has =
-      reply_kept place a has
-  verdict_kept asked (Planning begun) (step.Ended ending.NoMemory) a has = has
-  verdict_kept asked (Refused begun why) (step.Ended ending.Refused) a has = has
-  verdict_kept asked (Waiting place) (step.Stable found true) a has = reply_kept (seq place) a has
-  verdict_kept asked (Waiting place) (step.Stable found false) a has = has
-  verdict_kept asked stage made a has = absurd has
+  verdict_preserved : (asked : Call) (stage : Stage) (made : Step) (a : Answer) → HasVerdict t asked stage made a
+      → HasVerdict (with_traced t traced) asked stage made a
+  verdict_preserved asked (Called known) step.Replied a has = has
+  verdict_preserved asked (Called known) (step.Begun (Err why)) a has = has
+  verdict_preserved asked (Planning begun) (step.Commit blocks (committing.Committed place)) a has =
+      reply_preserved place a has
+  verdict_preserved asked (Planning begun) (step.Ended ending.NoMemory) a has = has
+  verdict_preserved asked (Refused begun why) (step.Ended ending.Refused) a has = has
+  verdict_preserved asked (Waiting place) (step.Stable found true) a has = reply_preserved (seq place) a has
+  verdict_preserved asked (Waiting place) (step.Stable found false) a has = has
+  verdict_preserved asked stage made a has = absurd has
 
-module _ (o : Setting) (workers : ℕ) (events : Schedule) (t : Transcript) (now : Event) (noted : Noted)
+module _ (o : Setting) (workers : ℕ) (events : Schedule) (t : Transcript) (now : Event) (traced : Traced)
     (is_event : slice_get events (length t.steps) ≡ Some now)
-    (is_taken : IsTaken o workers (told_now events t) now noted.made)
-    (places : (told_now events t).log.places ≡ length t.history)
-    (waits : ArePlaced (told_now events t) t.history t.answers) (answers : AreAnswers events t)
-    (tells : IsAnswerOf events t (with_noted t noted) now noted.made noted.answer) where
-  abbrev told : Told
-  told = told_now events t
+    (is_taken : IsTaken o workers (state_now events t) now traced.made)
+    (places : (state_now events t).log.places ≡ length t.history)
+    (waits : ArePlaced (state_now events t) t.history t.answers) (answers : AreAnswers events t)
+    (tells : IsAnswerOf events t (with_traced t traced) now traced.made traced.answer) where
+  abbrev run_state : RunState
+  run_state = state_now events t
 
-  abbrev next : Told
-  next = told_after told now noted.made
+  abbrev next : RunState
+  next = state_after run_state now traced.made
 
   abbrev grown : Transcript
-  grown = with_noted t noted
+  grown = with_traced t traced
 
   abbrev Comes : ℕ → Answer → Type 0
-  Comes index a = AnswerComes events t grown now noted.made index a
+  Comes index a = AnswerComes events t grown now traced.made index a
 
   comes : (index : ℕ) (a : Answer) → slice_get grown.answers index ≡ Some a → Comes index a
-  comes index a is = answer_comes events t now noted tells index a is
+  comes index a is = answer_comes events t now traced tells index a is
 
   -- ---- each is an answer
 
   earlier : (worker index : ℕ) → index ≤ length t.steps
       → progress_before events grown.steps worker index ≡ progress_before events t.steps worker index
-  earlier worker index few = progress_earlier events t.steps noted.made worker index few
+  earlier worker index few = progress_earlier events t.steps traced.made worker index few
 
   after_it : (worker index : ℕ) → index ≡ length t.steps
       → progress_before events grown.steps worker (index + 1) ≡ next.workers worker
   after_it worker index at =
       let one : index + 1 ≡ suc (length t.steps) = omega (arith, at) in
       ap (λ (n : ℕ). progress_before events grown.steps worker n) one
-      ∙ ap (λ (so_far : Told). so_far.workers worker) (told_then events t.steps noted.made now is_event)
+      ∙ ap (λ (so_far : RunState). so_far.workers worker) (state_moves events t.steps traced.made now is_event)
 
   before_it : (worker index : ℕ) → index ≡ length t.steps
-      → progress_before events grown.steps worker index ≡ told.workers worker
+      → progress_before events grown.steps worker index ≡ run_state.workers worker
   before_it worker index at =
       ap (λ (n : ℕ). progress_before events grown.steps worker n) at
       ∙ earlier worker (length t.steps) (omega arith)
@@ -100,23 +100,23 @@ module _ (o : Setting) (workers : ℕ) (events : Schedule) (t : Transcript) (now
         stage = is.stage;
         so_far = earlier a.worker a.event few ∙ is.so_far;
         step = is.step;
-        made = step_kept t noted a.event is.step is.made;
+        made = step_preserved t traced a.event is.step is.made;
         ends = ap is_idle (earlier a.worker (a.event + 1) so) ∙ is.ends;
-        verdict = verdict_kept t noted is.job.call is.stage is.step a is.verdict;
-        clock = is.clock ∙ sym (calls_earlier t noted a.event few);
+        verdict = verdict_preserved t traced is.job.call is.stage is.step a is.verdict;
+        clock = is.clock ∙ sym (calls_earlier t traced a.event few);
       }
 
-  newly : (a : Answer) → IsAnswerWith events t grown now noted.made a → IsAnswer events grown a
+  newly : (a : Answer) → IsAnswerWith events t grown now traced.made a → IsAnswer events grown a
   newly a is = record {
     event = ap (slice_get events) is.event ∙ is_event ∙ ap (λ (e : Event). Some e) is.event_is;
     job = is.job;
     stage = is.stage;
     so_far = before_it a.worker a.event is.event ∙ is.so_far;
     step = is.step;
-    made = ap (step_at grown) is.event ∙ step_now t noted ∙ is.made_is;
+    made = ap (step_at grown) is.event ∙ step_now t traced ∙ is.made_is;
     ends = ap is_idle (after_it a.worker a.event is.event) ∙ is.ends;
     verdict = is.verdict;
-    clock = is.clock ∙ sym (calls_earlier t noted (length t.steps) (omega arith))
+    clock = is.clock ∙ sym (calls_earlier t traced (length t.steps) (omega arith))
         ∙ ap (device_calls grown) (sym is.event);
   }
 
@@ -126,11 +126,11 @@ module _ (o : Setting) (workers : ℕ) (events : Schedule) (t : Transcript) (now
 
   -- ---- no place is answered twice
 
-  placed : (a : Answer) (place : ℕ) → IsAnswerWith events t grown now noted.made a → a.place ≡ Some (seq place)
+  placed : (a : Answer) (place : ℕ) → IsAnswerWith events t grown now traced.made a → a.place ≡ Some (seq place)
       → (index : ℕ) (b : Answer) → slice_get t.answers index ≡ Some b → b.place ≡ Some (seq place) → ⊥
   placed a place new is index b old so =
-      not_again o workers events t now noted is_taken places waits tells index place b a old so
-      (is_placed o workers events t now noted is_taken places waits tells a place new is)
+      not_again o workers events t now traced is_taken places waits tells index place b a old so
+      (is_placed o workers events t now traced is_taken places waits tells a place new is)
 
   once : (one other place : ℕ) (a b : Answer) → Comes one a → Comes other b → a.place ≡ Some (seq place)
       → b.place ≡ Some (seq place) → one ≡ other
@@ -167,12 +167,12 @@ module _ (o : Setting) (workers : ℕ) (events : Schedule) (t : Transcript) (now
   abbrev HasAnswer : ℕ → Type 0
   HasAnswer index = (a : Answer) × Contains grown.answers a × (a.event ≡ index)
 
-  answer_now : (given : Option Answer) → noted.answer ≡ given → IsAnswerOf events t grown now noted.made given
-      → (worker : ℕ) → worker_of now ≡ Some worker → is_idle (told.workers worker) ≡ false
+  answer_now : (given : Option Answer) → traced.answer ≡ given → IsAnswerOf events t grown now traced.made given
+      → (worker : ℕ) → worker_of now ≡ Some worker → is_idle (run_state.workers worker) ≡ false
       → is_idle (next.workers worker) ≡ true → HasAnswer (length t.steps)
   answer_now None is never worker own busy idle =
-      let ended : ends_of told next (worker_of now) ≡ true =
-      ap (ends_of told next) own ∙ (λ i. not (busy i) && idle i) in
+      let ended : ends_of run_state next (worker_of now) ≡ true =
+      ap (ends_of run_state next) own ∙ (λ i. not (busy i) && idle i) in
       let both : false ≡ true = sym never ∙ ended in
       cc
   answer_now (Some a) is of worker own busy idle = (
@@ -191,7 +191,7 @@ module _ (o : Setting) (workers : ℕ) (events : Schedule) (t : Transcript) (now
       let found = answers.whole index worker e is_e less own
       (ap is_idle (sym (earlier worker index few)) ∙ busy)
       (ap is_idle (sym (earlier worker (index + 1) so)) ∙ idle) in
-      (found.0, Contains-append_left t.answers (listed noted.answer) found.0 found.1, found.2)
+      (found.0, Contains-append_left t.answers (listed traced.answer) found.0 found.1, found.2)
 
   whole_now : (index worker : ℕ) (e : Event) → slice_get events index ≡ Some e → index ≡ length t.steps
       → worker_of e ≡ Some worker → is_idle (progress_before events grown.steps worker index) ≡ false
@@ -200,7 +200,7 @@ module _ (o : Setting) (workers : ℕ) (events : Schedule) (t : Transcript) (now
       let found : Some now ≡ Some e = sym is_event ∙ ap (slice_get events) (sym at) ∙ is_e in
       let same : now ≡ e = cc in
       subst HasAnswer (sym at)
-      (answer_now noted.answer refl tells worker (ap worker_of same ∙ own)
+      (answer_now traced.answer refl tells worker (ap worker_of same ∙ own)
       (ap is_idle (sym (before_it worker index at)) ∙ busy)
       (ap is_idle (sym (after_it worker index at)) ∙ idle))
 
@@ -210,7 +210,7 @@ module _ (o : Setting) (workers : ℕ) (events : Schedule) (t : Transcript) (now
   whole index worker e is_e less own busy idle = elim (cases_lt index (length t.steps)) [
     | inl before ↦ whole_before index worker e is_e before own busy idle
     | inr past ↦
-        let long = one_longer t.steps noted.made in
+        let long = one_longer t.steps traced.made in
         whole_now index worker e is_e (omega (arith, past, less, long)) own busy idle
   ]
 

@@ -26,57 +26,57 @@ use Rattle.store_promise.specs.declared.transcript.Answer.{Answer}
 use Rattle.store_promise.specs.declared.transcript.Committed.{Committed}
 use Rattle.store_promise.specs.Headline.{WasPromised, by_answer, by_commit, by_steps}
 use Rattle.store_promise.specs.History.{IsHistory}
-use Rattle.store_promise.specs.LogTold.{settled_told}
+use Rattle.store_promise.specs.LogState.{state_settled}
 use Rattle.store_promise.specs.Progress.{Again, At, Called, Planning, Read, Reading, Refused, Stage, Waiting}
-use Rattle.store_promise.specs.Schedule.{IsStepOfWork, Schedule, Setting, told_before}
+use Rattle.store_promise.specs.Schedule.{IsStepOfWork, Schedule, Setting, state_before}
 use Rattle.store_promise.specs.EventSteps.{AreTaken}
 use Rattle.store_promise.specs.Transcript.{Transcript, committed_at, entries_of, entry_of}
 use Rattle.store_promise.specs.Verdicts.{AreAnswers, HasVerdict, IsAnswer, IsReplyAt, IsStableAnswer}
 use Rattle.store_promise.specs.Verdicts.{IsUnsettledAt}
 use Rattle.store_promise.proofs.StableAnswers.{comes_later, entry_index, same_entry}
-use Rattle.store_promise.proofs.Told.{only_of_some, step_is}
-use Rattle.store_law.specs.Runs.Past.{WasToldBy}
+use Rattle.store_promise.proofs.RunStates.{only_of_some, step_is}
+use Rattle.store_law.specs.Runs.Past.{WasSettledBy}
 use Rattle.store_law.proofs.RunsLemmas.Waited.{waits_for_its_own}
 
 -- ---- what a step of an answer has told
 
-data Told (t : Transcript) (asked : Call) (a : Answer) (stage : Stage) (made : Step) : Type 0 where
-  of_none : a.place ≡ None → Told t asked a stage made
+data AnswerCase (t : Transcript) (asked : Call) (a : Answer) (stage : Stage) (made : Step) : Type 0 where
+  of_none : a.place ≡ None → AnswerCase t asked a stage made
   at_commit : (blocks : List BlockNo) (place : Seq) → made ≡ step.Commit blocks (committing.Committed place)
-      → IsReplyAt t place a → Told t asked a stage made
+      → IsReplyAt t place a → AnswerCase t asked a stage made
   settled : (place : ℕ) (seq : Seq) → stage ≡ Waiting place → made ≡ step.Stable seq true
-      → IsReplyAt t (record { 0 = place }) a → Told t asked a stage made
+      → IsReplyAt t (record { 0 = place }) a → AnswerCase t asked a stage made
   unsettled : (place : ℕ) → stage ≡ Waiting place → IsUnsettledAt asked (record { 0 = place }) a
-      → Told t asked a stage made
+      → AnswerCase t asked a stage made
 
-told_of : (t : Transcript) (asked : Call) (a : Answer) (stage : Stage) (made : Step)
+answer_case_of : (t : Transcript) (asked : Call) (a : Answer) (stage : Stage) (made : Step)
     → HasVerdict t asked stage made a
-    → Told t asked a stage made
-told_of t asked a (Called known) step.Replied has = of_none has.0
-told_of t asked a (Called known) (step.Begun (Err why)) has = of_none has.0
-told_of t asked a (Called known) (step.Begun (Ok number)) has = absurd has
-told_of t asked a (Called known) _ has = absurd has
-told_of t asked a (Planning begun) (step.Commit blocks (committing.Committed place)) has =
+    → AnswerCase t asked a stage made
+answer_case_of t asked a (Called known) step.Replied has = of_none has.0
+answer_case_of t asked a (Called known) (step.Begun (Err why)) has = of_none has.0
+answer_case_of t asked a (Called known) (step.Begun (Ok number)) has = absurd has
+answer_case_of t asked a (Called known) _ has = absurd has
+answer_case_of t asked a (Planning begun) (step.Commit blocks (committing.Committed place)) has =
     at_commit blocks place refl has
-told_of t asked a (Planning begun) (step.Commit blocks committing.Full) has = absurd has
-told_of t asked a (Planning begun) (step.Commit blocks committing.Foreign) has = absurd has
-told_of t asked a (Planning begun) (step.Commit blocks committing.NoMemory) has = absurd has
-told_of t asked a (Planning begun) (step.Commit blocks committing.Broken) has = absurd has
-told_of t asked a (Planning begun) (step.Commit blocks committing.Spent) has = absurd has
-told_of t asked a (Planning begun) (step.Ended ending.NoMemory) has = of_none has.0
-told_of t asked a (Planning begun) (step.Ended ending.Refused) has = absurd has
-told_of t asked a (Planning begun) (step.Ended ending.Again) has = absurd has
-told_of t asked a (Planning begun) _ has = absurd has
-told_of t asked a (Reading begun taken) _ has = absurd has
-told_of t asked a (Read begun taken ok) _ has = absurd has
-told_of t asked a (Refused begun why) (step.Ended ending.Refused) has = of_none has.0
-told_of t asked a (Refused begun why) (step.Ended ending.NoMemory) has = absurd has
-told_of t asked a (Refused begun why) (step.Ended ending.Again) has = absurd has
-told_of t asked a (Refused begun why) _ has = absurd has
-told_of t asked a (Again begun wished) _ has = absurd has
-told_of t asked a (Waiting place) (step.Stable seq true) has = settled place seq refl refl has
-told_of t asked a (Waiting place) (step.Stable seq false) has = unsettled place refl has
-told_of t asked a (Waiting place) _ has = absurd has
+answer_case_of t asked a (Planning begun) (step.Commit blocks committing.Full) has = absurd has
+answer_case_of t asked a (Planning begun) (step.Commit blocks committing.Foreign) has = absurd has
+answer_case_of t asked a (Planning begun) (step.Commit blocks committing.NoMemory) has = absurd has
+answer_case_of t asked a (Planning begun) (step.Commit blocks committing.Broken) has = absurd has
+answer_case_of t asked a (Planning begun) (step.Commit blocks committing.Spent) has = absurd has
+answer_case_of t asked a (Planning begun) (step.Ended ending.NoMemory) has = of_none has.0
+answer_case_of t asked a (Planning begun) (step.Ended ending.Refused) has = absurd has
+answer_case_of t asked a (Planning begun) (step.Ended ending.Again) has = absurd has
+answer_case_of t asked a (Planning begun) _ has = absurd has
+answer_case_of t asked a (Reading begun taken) _ has = absurd has
+answer_case_of t asked a (Read begun taken ok) _ has = absurd has
+answer_case_of t asked a (Refused begun why) (step.Ended ending.Refused) has = of_none has.0
+answer_case_of t asked a (Refused begun why) (step.Ended ending.NoMemory) has = absurd has
+answer_case_of t asked a (Refused begun why) (step.Ended ending.Again) has = absurd has
+answer_case_of t asked a (Refused begun why) _ has = absurd has
+answer_case_of t asked a (Again begun request) _ has = absurd has
+answer_case_of t asked a (Waiting place) (step.Stable seq true) has = settled place seq refl refl has
+answer_case_of t asked a (Waiting place) (step.Stable seq false) has = unsettled place refl has
+answer_case_of t asked a (Waiting place) _ has = absurd has
 
 -- ---- each procedure was a step
 
@@ -120,7 +120,7 @@ module _ (o : Setting) (workers : ℕ) (events : Schedule) (t : Transcript) (tre
     step_there = step_is t a.event answer.step answer.made
 
     abbrev IsSettled : Type 0
-    IsSettled = place ≤ settled_told (told_before events t.steps a.event).log
+    IsSettled = place ≤ state_settled (state_before events t.steps a.event).log
 
     within : a.event ≤ length t.steps
     within = let less = get_less t.steps a.event (Some answer.step) step_there in omega (arith, less)
@@ -140,17 +140,17 @@ module _ (o : Setting) (workers : ℕ) (events : Schedule) (t : Transcript) (tre
         let own = own_step o workers _ _ _ (taken.each a.event (event.Work a.worker) (Some answer.step) answer.event
         step_there) there in
         let so_far = answer.so_far ∙ ap (At answer.job) stage_is in
-        let may = subst (λ p. IsStepOfWork o (told_before events t.steps a.event) a.worker p
+        let may = subst (λ p. IsStepOfWork o (state_before events t.steps a.event) a.worker p
         (Some answer.step)) so_far own in
-        let stepped = subst (λ one. IsStepOfWork o (told_before events t.steps a.event) a.worker
+        let stepped = subst (λ one. IsStepOfWork o (state_before events t.steps a.event) a.worker
         (At answer.job (Waiting waited)) (Some one)) step_is_stable may in
-        let less = leb-true waited (settled_told (told_before events t.steps a.event).log) (sym stepped.1) in
+        let less = leb-true waited (state_settled (state_before events t.steps a.event).log) (sym stepped.1) in
         omega (arith, less, same)
 
     -- IO in its stead isn't the reply of what was committed
     not_broken : (waited : ℕ) → answer.stage ≡ Waiting waited → waited ≡ place
         → a.verdict ≡ verdict.Reply (refused status.Io answer.job.call) → ⊥
-    not_broken waited stage_is same told =
+    not_broken waited stage_is same proven =
         let so_far = answer.so_far ∙ ap (At answer.job) stage_is in
         let own = waits_for_its_own o workers events t taken history a.worker answer.job waited a.event
         within so_far in
@@ -159,53 +159,53 @@ module _ (o : Setting) (workers : ℕ) (events : Schedule) (t : Transcript) (tre
         let call_is : stable.entry.call ≡ answer.job.call =
         ap (λ (c : Committed). c.call) (sym entry_is) ∙ own.2 in
         let replies : verdict.Reply stable.entry.reply ≡ verdict.Reply (refused status.Io answer.job.call) =
-        sym stable.told ∙ told in
+        sym stable.is_replied ∙ proven in
         let reply_is : stable.entry.reply ≡ refused status.Io answer.job.call = cc in
         let index = entry_index t place stable.entry stable.is_entry in
-        let led = step_of tree last (entries_of t) index.0 (entry_of stable.entry) leads
+        let transition = step_of tree last (entries_of t) index.0 (entry_of stable.entry) leads
         (entry_there t.history index.0 stable.entry index.1) in
-        never led.0 led.1 stable.entry.ctx stable.entry.call stable.waits
-        (subst (λ (r : Reply). procedures.step led.0 stable.entry.ctx stable.entry.call r led.1)
-        (reply_is ∙ ap (refused status.Io) (sym call_is)) led.2)
+        never transition.0 transition.1 stable.entry.ctx stable.entry.call stable.waits
+        (subst (λ (r : Reply). procedures.step transition.0 stable.entry.ctx stable.entry.call r transition.1)
+        (reply_is ∙ ap (refused status.Io) (sym call_is)) transition.2)
 
-    by_told : Told t answer.job.call a answer.stage answer.step → IsSettled
-    by_told (of_none none) = absurd (no_place _ a none stable.placed)
-    by_told (at_commit blocks at made_is reply) =
+    by_answer_case : AnswerCase t answer.job.call a answer.stage answer.step → IsSettled
+    by_answer_case (of_none none) = absurd (no_place _ a none stable.placed)
+    by_answer_case (at_commit blocks at made_is reply) =
         let same = same_place at (record { 0 = place }) a reply.placed stable.placed in
         absurd (comes_later events t a place blocks history answer stable
         (answer.made ∙ ap (λ (s : Step). Some s) made_is
         ∙ ap (λ (p : Seq). Some (step.Commit blocks (committing.Committed p))) same))
-    by_told (settled waited seq stage_is made_is reply) =
+    by_answer_case (settled waited seq stage_is made_is reply) =
         let same = same_place (record { 0 = waited }) (record { 0 = place }) a reply.placed stable.placed in
         by_step waited seq stage_is made_is (ap (λ (p : Seq). p.0) same)
-    by_told (unsettled waited stage_is broken) =
+    by_answer_case (unsettled waited stage_is broken) =
         let same = same_place (record { 0 = waited }) (record { 0 = place }) a broken.0 stable.placed in
         absurd (not_broken waited stage_is (ap (λ (p : Seq). p.0) same) broken.1)
 
-    pub stable_told : IsSettled
-    stable_told = by_told (told_of t answer.job.call a answer.stage answer.step answer.verdict)
+    pub settled_if_stable : IsSettled
+    settled_if_stable = by_answer_case (answer_case_of t answer.job.call a answer.stage answer.step answer.verdict)
 
-    pub told_by : (start clock least : ℕ) → start + a.clock ≤ clock → least ≤ place
-        → WasToldBy events start t clock least
-    told_by start clock least by low =
-        let told = stable_told in
+    pub settled_by_clock : (start clock least : ℕ) → start + a.clock ≤ clock → least ≤ place
+        → WasSettledBy events start t clock least
+    settled_by_clock start clock least by low =
+        let proven = settled_if_stable in
         let clocks = answer.clock in
         record {
           index = a.event;
           within = within;
           by = omega (arith, by, clocks);
-          settled = omega (arith, told, low);
+          settled = omega (arith, proven, low);
         }
 
   -- whatever was promised to last was told as settled by then
-  pub was_told : (start clock place : ℕ) → WasPromised events start t clock place
-      → WasToldBy events start t clock place
-  was_told start clock place (by_answer a given by stable) =
+  pub was_settled : (start clock place : ℕ) → WasPromised events start t clock place
+      → WasSettledBy events start t clock place
+  was_settled start clock place (by_answer a given by stable) =
       let at = contains_at t.answers a given in
-      told_by a place (answers.each at.0 a at.1) stable start clock place by (omega arith)
-  was_told start clock place (by_commit a given by covered) =
+      settled_by_clock a place (answers.each at.0 a at.1) stable start clock place by (omega arith)
+  was_settled start clock place (by_commit a given by covered) =
       let at = contains_at t.answers a given in
       let later = covered.later in
-      told_by a covered.by (answers.each at.0 a at.1) covered.stable start clock place by (omega (arith, later))
-  was_told start clock place (by_steps index few by told) =
-      record { index = index; within = few; by = by; settled = told }
+      settled_by_clock a covered.by (answers.each at.0 a at.1) covered.stable start clock place by (omega (arith, later))
+  was_settled start clock place (by_steps index few by proven) =
+      record { index = index; within = few; by = by; settled = proven }

@@ -13,17 +13,17 @@ use Rattle.store_promise.specs.declared.events.Committing.TheVariants as committ
 use Rattle.store_promise.specs.declared.events.Event.{Event}
 use Rattle.store_promise.specs.declared.events.Step.{Step}
 use Rattle.store_promise.specs.declared.events.Step.TheVariants as step
-use Rattle.store_promise.specs.LogTold.{CallTold, LogTold, idle, log_moved, out, settled_told, tail_told, was_made}
-use Rattle.store_promise.specs.LogTold.{with_commit, with_inst_behind, with_inst_done, with_inst_given}
-use Rattle.store_promise.specs.LogTold.{with_inst_taken}
-use Rattle.store_promise.specs.LogTold.{with_log_done, with_log_given, with_log_taken}
-use Rattle.store_promise.specs.Schedule.{Schedule, Told, at_first, told_after, told_along, told_before}
+use Rattle.store_promise.specs.LogState.{CallState, LogState, idle, log_moved, out, state_settled, state_tail, was_made}
+use Rattle.store_promise.specs.LogState.{with_commit, with_inst_behind, with_inst_done, with_inst_given}
+use Rattle.store_promise.specs.LogState.{with_inst_taken}
+use Rattle.store_promise.specs.LogState.{with_log_done, with_log_given, with_log_taken}
+use Rattle.store_promise.specs.Schedule.{Schedule, RunState, at_first, state_after, state_along, state_before}
 
 -- the first commits of the group and of the tail were made, and that of the group no later
-pub record IsOrdered (log : LogTold) : Type 0 where
+pub record IsOrdered (log : LogState) : Type 0 where
   pub taken : 0 < log.taken → log.taken_first ≤ log.places
-  pub tail : 0 < tail_told log → log.tail_first ≤ log.places
-  pub both : 0 < log.taken → 0 < tail_told log → log.taken_first ≤ log.tail_first
+  pub tail : 0 < state_tail log → log.tail_first ≤ log.places
+  pub both : 0 < log.taken → 0 < state_tail log → log.taken_first ≤ log.tail_first
 
 -- what is told as settled, by its parts
 abbrev settled_of : ℕ → ℕ → ℕ → ℕ → ℕ → ℕ
@@ -31,19 +31,19 @@ settled_of taken taken_first tail tail_first places =
     if nat_lt 0 taken then taken_first - 1 else if nat_lt 0 tail then tail_first - 1 else places
 
 -- a step leaves the first commits in order, and takes no settled place back
-pub record Rises (old new : LogTold) : Type 0 where
+pub record Rises (old new : LogState) : Type 0 where
   pub ordered : IsOrdered new
-  pub settled : settled_told old ≤ settled_told new
+  pub settled : state_settled old ≤ state_settled new
 
 -- one that leaves these parts
-record SameParts (old new : LogTold) : Type 0 where
+record SameParts (old new : LogState) : Type 0 where
   places : new.places ≡ old.places
   taken : new.taken ≡ old.taken
   taken_first : new.taken_first ≡ old.taken_first
-  tail : tail_told new ≡ tail_told old
+  tail : state_tail new ≡ state_tail old
   tail_first : new.tail_first ≡ old.tail_first
 
-same_parts : (old new : LogTold) → IsOrdered old → SameParts old new → Rises old new
+same_parts : (old new : LogState) → IsOrdered old → SameParts old new → Rises old new
 same_parts old new is same =
     let a = same.places in
     let b = same.taken in
@@ -60,13 +60,13 @@ same_parts old new is same =
       settled = (let f = settled_is in omega (arith, f));
     }
   where
-    settled_is : settled_told new ≡ settled_told old
+    settled_is : state_settled new ≡ state_settled old
     settled_is = λ i. settled_of (same.taken i) (same.taken_first i) (same.tail i) (same.tail_first i)
         (same.places i)
 
 -- ---- a commit
 
-commit_rises : (log : LogTold) (blocks : List BlockNo) → IsOrdered log → Rises log (with_commit log blocks)
+commit_rises : (log : LogState) (blocks : List BlockNo) → IsOrdered log → Rises log (with_commit log blocks)
 commit_rises log blocks is =
     let a = is.taken in
     let b = is.tail in
@@ -83,7 +83,7 @@ commit_rises log blocks is =
 
 -- ---- the logger
 
-parts_of : (log new : LogTold) → new ≡ record log {
+parts_of : (log new : LogState) → new ≡ record log {
   log_step = new.log_step;
   logged = new.logged;
   installing = new.installing;
@@ -94,19 +94,19 @@ parts_of : (log new : LogTold) → new ≡ record log {
   inst_call = new.inst_call;
 } → IsOrdered log → Rises log new
 parts_of log new same is = same_parts log new is (record {
-  places = ap (λ (l : LogTold). l.places) same;
-  taken = ap (λ (l : LogTold). l.taken) same;
-  taken_first = ap (λ (l : LogTold). l.taken_first) same;
-  tail = ap tail_told same;
-  tail_first = ap (λ (l : LogTold). l.tail_first) same;
+  places = ap (λ (l : LogState). l.places) same;
+  taken = ap (λ (l : LogState). l.taken) same;
+  taken_first = ap (λ (l : LogState). l.taken_first) same;
+  tail = ap state_tail same;
+  tail_first = ap (λ (l : LogState). l.tail_first) same;
 })
 
-taken_rises : (log : LogTold) (call : IoCall) → IsOrdered log → Rises log (with_log_taken log call)
+taken_rises : (log : LogState) (call : IoCall) → IsOrdered log → Rises log (with_log_taken log call)
 taken_rises log call is = by_group (nat_lt 0 log.taken) refl
   where
     by_group : (t : Bool) → nat_lt 0 log.taken ≡ t → Rises log (if t then record log { log_call = out call }
         else record log {
-          taken = tail_told log;
+          taken = state_tail log;
           taken_first = log.tail_first;
           tail = [];
           tail_first = 0;
@@ -124,7 +124,7 @@ taken_rises log call is = by_group (nat_lt 0 log.taken) refl
           settled = grind (arith, nat_tests, none, b);
         }
 
-done_rises : (log : LogTold) → IsOrdered log → Rises log (with_log_done log)
+done_rises : (log : LogState) → IsOrdered log → Rises log (with_log_done log)
 done_rises log is = by_step (nat_eq log.log_step (log.taken + 2))
   where
     by_step : (t : Bool) → Rises log (if t then record log {
@@ -148,13 +148,13 @@ done_rises log is = by_step (nat_eq log.log_step (log.taken + 2))
           settled = grind (arith, nat_tests, a, b, c);
         }
 
-given_rises : (log : LogTold) (ok : Bool) → IsOrdered log → Rises log (with_log_given log ok)
+given_rises : (log : LogState) (ok : Bool) → IsOrdered log → Rises log (with_log_given log ok)
 given_rises log true is = done_rises log is
 given_rises log false is = parts_of log (record log { broken = true; log_call = idle }) refl is
 
 -- ---- the installer
 
-inst_taken_rises : (log : LogTold) (call : IoCall) → IsOrdered log → Rises log (with_inst_taken log call)
+inst_taken_rises : (log : LogState) (call : IoCall) → IsOrdered log → Rises log (with_inst_taken log call)
 inst_taken_rises log call is = by_group (nat_lt 0 log.installing)
   where
     by_group : (t : Bool) → Rises log (if t then record log { inst_call = out call }
@@ -162,7 +162,7 @@ inst_taken_rises log call is = by_group (nat_lt 0 log.installing)
     by_group true = parts_of log (record log { inst_call = out call }) refl is
     by_group false = parts_of log (record log { installing = log.logged; inst_call = out call }) refl is
 
-behind_rises : (log : LogTold) → IsOrdered log → Rises log (with_inst_behind log)
+behind_rises : (log : LogState) → IsOrdered log → Rises log (with_inst_behind log)
 behind_rises log is = by_step (nat_eq log.behind 2)
   where
     by_step : (t : Bool) → Rises log (if t then record log {
@@ -181,10 +181,10 @@ behind_rises log is = by_step (nat_eq log.behind 2)
     }) refl is
     by_step false = parts_of log (record log { behind = log.behind + 1; inst_call = idle }) refl is
 
-inst_done_rises : (log : LogTold) (call : CallTold) → IsOrdered log → Rises log (with_inst_done log call)
+inst_done_rises : (log : LogState) (call : CallState) → IsOrdered log → Rises log (with_inst_done log call)
 inst_done_rises log idle is = parts_of log log refl is
 inst_done_rises log (out call) is = parts_of log log refl is
-inst_done_rises log (was_made (Barrier side) ok) is = behind_rises log is
+inst_done_rises log (was_made (Barrier store_state) ok) is = behind_rises log is
 inst_done_rises log (was_made (Write block) ok) is = by_stage (nat_eq log.behind 0)
   where
     by_stage : (t : Bool) → Rises log (if t then record log { homes = log.homes + 1; inst_call = idle }
@@ -192,16 +192,16 @@ inst_done_rises log (was_made (Write block) ok) is = by_stage (nat_eq log.behind
     by_stage true = parts_of log (record log { homes = log.homes + 1; inst_call = idle }) refl is
     by_stage false = behind_rises log is
 
-inst_given_rises : (log : LogTold) (ok : Bool) → IsOrdered log → Rises log (with_inst_given log ok)
+inst_given_rises : (log : LogState) (ok : Bool) → IsOrdered log → Rises log (with_inst_given log ok)
 inst_given_rises log true is = inst_done_rises log log.inst_call is
 inst_given_rises log false is = parts_of log (record log { broken = true; inst_call = idle }) refl is
 
 -- ---- any step
 
-still : (log : LogTold) → IsOrdered log → Rises log log
+still : (log : LogState) → IsOrdered log → Rises log log
 still log is = parts_of log log refl is
 
-moved_rises : (log : LogTold) (made : Step) → IsOrdered log → Rises log (log_moved log made)
+moved_rises : (log : LogState) (made : Step) → IsOrdered log → Rises log (log_moved log made)
 moved_rises log step.Called is = still log is
 moved_rises log step.Replied is = still log is
 moved_rises log (step.Begun number) is = still log is
@@ -221,7 +221,7 @@ moved_rises log (step.Read block ok) is = still log is
 moved_rises log (step.LogNext call) is = taken_rises log call is
 moved_rises log (step.LogIo ok) is = still_made log is
   where
-    still_made : (log : LogTold) → IsOrdered log → Rises log (log_moved log (step.LogIo ok))
+    still_made : (log : LogState) → IsOrdered log → Rises log (log_moved log (step.LogIo ok))
     still_made log is = parts_of log (log_moved log (step.LogIo ok)) refl is
 moved_rises log (step.LogDone ok) is = given_rises log ok is
 moved_rises log (step.InstNext call) is = inst_taken_rises log call is
@@ -230,36 +230,36 @@ moved_rises log (step.InstDone ok) is = inst_given_rises log ok is
 
 -- ---- along steps
 
-abbrev RisesTold : Told → Told → Type 0
-RisesTold old new = Rises old.log new.log
+abbrev RisesRunState : RunState → RunState → Type 0
+RisesRunState old new = Rises old.log new.log
 
-after_rises : (told : Told) (now : Event) (made : Option Step) → IsOrdered told.log
-    → RisesTold told (told_after told now made)
-after_rises told now None is = still told.log is
-after_rises told now (Some made) is = moved_rises told.log made is
+after_rises : (run_state : RunState) (now : Event) (made : Option Step) → IsOrdered run_state.log
+    → RisesRunState run_state (state_after run_state now made)
+after_rises run_state now None is = still run_state.log is
+after_rises run_state now (Some made) is = moved_rises run_state.log made is
 
-along_rises : (told : Told) (steps : List (Event × Option Step)) → IsOrdered told.log
-    → RisesTold told (told_along told steps)
-along_rises told [] is = still told.log is
-along_rises told (first ∷ others) is =
-    let now = after_rises told first.0 first.1 is in
-    let rest = along_rises (told_after told first.0 first.1) others now.ordered in
+along_rises : (run_state : RunState) (steps : List (Event × Option Step)) → IsOrdered run_state.log
+    → RisesRunState run_state (state_along run_state steps)
+along_rises run_state [] is = still run_state.log is
+along_rises run_state (first ∷ others) is =
+    let now = after_rises run_state first.0 first.1 is in
+    let rest = along_rises (state_after run_state first.0 first.1) others now.ordered in
     let a = now.settled in
     let b = rest.settled in
     record { ordered = rest.ordered; settled = omega (arith, a, b) }
 
 -- the later of two moments has all that was settled at the other
-prefix_rises : (told : Told) (steps : List (Event × Option Step)) (one other : ℕ) → one ≤ other
-    → IsOrdered told.log
-    → settled_told (told_along told (take one steps)).log ≤ settled_told
-    (told_along told (take other steps)).log
-prefix_rises told steps zero other early is = (along_rises told (take other steps) is).settled
-prefix_rises told [] (suc one) zero early is = absurd (omega (arith, early))
-prefix_rises told [] (suc one) (suc other) early is = omega arith
-prefix_rises told (first ∷ others) (suc one) zero early is = absurd (omega (arith, early))
-prefix_rises told (first ∷ others) (suc one) (suc other) early is =
-    prefix_rises (told_after told first.0 first.1) others one other (omega (arith, early))
-    (after_rises told first.0 first.1 is).ordered
+prefix_rises : (run_state : RunState) (steps : List (Event × Option Step)) (one other : ℕ) → one ≤ other
+    → IsOrdered run_state.log
+    → state_settled (state_along run_state (take one steps)).log ≤ state_settled
+    (state_along run_state (take other steps)).log
+prefix_rises run_state steps zero other early is = (along_rises run_state (take other steps) is).settled
+prefix_rises run_state [] (suc one) zero early is = absurd (omega (arith, early))
+prefix_rises run_state [] (suc one) (suc other) early is = omega arith
+prefix_rises run_state (first ∷ others) (suc one) zero early is = absurd (omega (arith, early))
+prefix_rises run_state (first ∷ others) (suc one) (suc other) early is =
+    prefix_rises (state_after run_state first.0 first.1) others one other (omega (arith, early))
+    (after_rises run_state first.0 first.1 is).ordered
 
 none_yet : IsOrdered at_first.log
 none_yet = record {
@@ -268,7 +268,7 @@ none_yet = record {
   both = λ has more. absurd (omega (arith, has));
 }
 
-pub what_was_told_stays : (events : Schedule) (steps : List (Option Step)) (one other : ℕ) → one ≤ other
-    → settled_told (told_before events steps one).log ≤ settled_told (told_before events steps other).log
-what_was_told_stays events steps one other early =
+pub settled_state_stays : (events : Schedule) (steps : List (Option Step)) (one other : ℕ) → one ≤ other
+    → state_settled (state_before events steps one).log ≤ state_settled (state_before events steps other).log
+settled_state_stays events steps one other early =
     prefix_rises at_first (zip events steps) one other early none_yet

@@ -19,18 +19,18 @@ use Rattle.circ.specs.Log.Overlay.{over}
 use Rattle.store_promise.specs.declared.events.Step.{Step}
 use Rattle.store_promise.specs.declared.transcript.Committed.{Committed}
 use Rattle.store_promise.specs.GoodImage.{IsGoodImage}
-use Rattle.store_promise.specs.LogTold.{settled_told}
+use Rattle.store_promise.specs.LogState.{state_settled}
 use Rattle.store_promise.specs.Openings.{IsLater}
 use Rattle.store_promise.specs.OpenSince.{LeavesBlocks, blocks_after}
 use Rattle.store_promise.specs.FailedCalls.{one_if}
-use Rattle.store_promise.specs.Running.{StoreSide}
-use Rattle.store_promise.specs.Schedule.{Schedule, Setting, told_before}
+use Rattle.store_promise.specs.Running.{StoreState}
+use Rattle.store_promise.specs.Schedule.{Schedule, Setting, state_before}
 use Rattle.store_promise.specs.Transcript.{Transcript, calls_device, commits_by, device_calls, entries_of}
 use Rattle.store_promise.specs.Transcript.{entry_of}
-use Rattle.store_law.specs.Runs.Noting.{Noted, clock_now, listed, told_now, with_noted}
-use Rattle.store_law.specs.Runs.Past.{HasLeft, LeavesSoFar, WasToldBy}
+use Rattle.store_law.specs.Runs.Tracing.{Traced, clock_now, listed, state_now, with_traced}
+use Rattle.store_law.specs.Runs.Past.{HasLeft, LeavesSoFar, WasSettledBy}
 use Rattle.store_law.specs.Runs.Run.{Beginning, GoesOn, IsRun}
-use Rattle.store_law.proofs.RunsLemmas.Settled.{what_was_told_stays}
+use Rattle.store_law.proofs.RunsLemmas.Settled.{settled_state_stays}
 
 -- ---- the images of a moment so far
 
@@ -53,34 +53,34 @@ either clock now within = by_test (nat_lt clock now) refl
 count_more : {X : Type 0} (test : X → Bool) (xs ys : List X) → count_by test xs ≤ count_by test (xs ++ ys)
 count_more test xs ys = let is = sum_by-append (λ x. one_if (test x)) xs ys in omega (arith, is)
 
-pub device_calls_stay : (t : Transcript) (noted : Noted) (index : ℕ) → index ≤ length t.steps
-    → device_calls (with_noted t noted) index ≡ device_calls t index
-device_calls_stay t noted index within =
+pub device_calls_stay : (t : Transcript) (traced : Traced) (index : ℕ) → index ≤ length t.steps
+    → device_calls (with_traced t traced) index ≡ device_calls t index
+device_calls_stay t traced index within =
     ap (λ (steps : List (Option Step)). count_by calls_device steps)
-    (take-append-le index t.steps (noted.made ∷ []) within)
+    (take-append-le index t.steps (traced.made ∷ []) within)
 
 pub clock_is : (t : Transcript) → clock_now t ≡ count_by calls_device t.steps
 clock_is t = ap (λ (steps : List (Option Step)). count_by calls_device steps)
     (take_all (length t.steps) t.steps (omega arith))
 
-pub clock_then : (t : Transcript) (noted : Noted)
-    → clock_now (with_noted t noted) ≡ clock_now t + one_if (calls_device noted.made)
-clock_then t noted = clock_is (with_noted t noted)
-    ∙ sum_by_push (λ made. one_if (calls_device made)) t.steps noted.made
-    ∙ ap (λ (n : ℕ). n + one_if (calls_device noted.made)) (sym (clock_is t))
+pub clock_then : (t : Transcript) (traced : Traced)
+    → clock_now (with_traced t traced) ≡ clock_now t + one_if (calls_device traced.made)
+clock_then t traced = clock_is (with_traced t traced)
+    ∙ sum_by_push (λ made. one_if (calls_device made)) t.steps traced.made
+    ∙ ap (λ (n : ℕ). n + one_if (calls_device traced.made)) (sym (clock_is t))
 
-entries_then : (t : Transcript) (noted : Noted)
-    → entries_of (with_noted t noted) ≡ entries_of t ++ map entry_of (listed noted.entry)
-entries_then t noted = map-append entry_of t.history (listed noted.entry)
+entries_then : (t : Transcript) (traced : Traced)
+    → entries_of (with_traced t traced) ≡ entries_of t ++ map entry_of (listed traced.entry)
+entries_then t traced = map-append entry_of t.history (listed traced.entry)
 
 -- ---- a stop before the event's call leaves what it left
 
-module _ (size first : ℕ) (tree : Tree) (events : Schedule) (start : ℕ) (t : Transcript) (noted : Noted)
+module _ (size first : ℕ) (tree : Tree) (events : Schedule) (start : ℕ) (t : Transcript) (traced : Traced)
     (blocks later : ℕ → Image) (clock : ℕ) (image : Image)
     (same : (place : ℕ) → place ≤ length t.history → later place ≡ blocks place)
-    (told_stays : (index : ℕ) → index ≤ length t.steps
-    → told_before events (with_noted t noted).steps index ≡ told_before events t.steps index)
-    (before_it : clock < start + clock_now (with_noted t noted))
+    (state_stays : (index : ℕ) → index ≤ length t.steps
+    → state_before events (with_traced t traced).steps index ≡ state_before events t.steps index)
+    (before_it : clock < start + clock_now (with_traced t traced))
     (left : LeavesSoFar size first tree events start t blocks clock image) where
   few : left.prefix.count ≤ length t.history
   few =
@@ -88,35 +88,35 @@ module _ (size first : ℕ) (tree : Tree) (events : Schedule) (start : ℕ) (t :
       let b = count_by-le-length (λ (c : Committed). nat_le (start + c.clock) clock) t.history in
       omega (arith, a, b)
 
-  was_told : (place : ℕ) → WasToldBy events start (with_noted t noted) clock place
-      → WasToldBy events start t clock place
-  was_told place told = by_index (either told.index (length t.steps + 1) within)
+  was_settled : (place : ℕ) → WasSettledBy events start (with_traced t traced) clock place
+      → WasSettledBy events start t clock place
+  was_settled place settled_then = by_index (either settled_then.index (length t.steps + 1) within)
     where
-      within : told.index ≤ length t.steps + 1
-      within = let a = told.within in let b = length-append t.steps (noted.made ∷ []) in omega (arith, a, b)
+      within : settled_then.index ≤ length t.steps + 1
+      within = let a = settled_then.within in let b = length-append t.steps (traced.made ∷ []) in omega (arith, a, b)
 
-      by_index : (told.index < length t.steps + 1) ⊎ (told.index ≡ length t.steps + 1)
-          → WasToldBy events start t clock place
+      by_index : (settled_then.index < length t.steps + 1) ⊎ (settled_then.index ≡ length t.steps + 1)
+          → WasSettledBy events start t clock place
       by_index (inl early) =
-          let soon : told.index ≤ length t.steps = omega (arith, early) in
-          let calls = device_calls_stay t noted told.index soon in
-          let by = told.by in
-          let settled = told.settled in
-          let stays = ap (λ told. settled_told told.log) (told_stays told.index soon) in
+          let soon : settled_then.index ≤ length t.steps = omega (arith, early) in
+          let calls = device_calls_stay t traced settled_then.index soon in
+          let by = settled_then.by in
+          let settled = settled_then.settled in
+          let stays = ap (λ run_state. state_settled run_state.log) (state_stays settled_then.index soon) in
           record {
-            index = told.index;
+            index = settled_then.index;
             within = soon;
             by = omega (arith, calls, by);
             settled = omega (arith, settled, stays);
           }
       by_index (inr late) =
-          let long = length-append t.steps (noted.made ∷ []) in
-          let at : told.index ≡ length (with_noted t noted).steps = omega (arith, late, long) in
-          let calls = ap (λ (n : ℕ). device_calls (with_noted t noted) n) at in
-          let by = told.by in
+          let long = length-append t.steps (traced.made ∷ []) in
+          let at : settled_then.index ≡ length (with_traced t traced).steps = omega (arith, late, long) in
+          let calls = ap (λ (n : ℕ). device_calls (with_traced t traced) n) at in
+          let by = settled_then.by in
           absurd (omega (arith, calls, by, before_it))
 
-  pub left_then : LeavesSoFar size first tree events start (with_noted t noted) later clock image
+  pub left_then : LeavesSoFar size first tree events start (with_traced t traced) later clock image
   left_then = record {
     prefix = record {
       boot = left.prefix.boot;
@@ -126,21 +126,21 @@ module _ (size first : ℕ) (tree : Tree) (events : Schedule) (start : ℕ) (t :
       count = left.prefix.count;
       few = (let a = left.prefix.few in
           let b = count_more (λ (c : Committed). nat_le (start + c.clock) clock) t.history
-          (listed noted.entry) in
+          (listed traced.entry) in
           omega (arith, a, b));
       prefix = subst (λ (es : List Entry). after tree es left.prefix.left) (sym entries_are) left.prefix.prefix;
-      lasts = λ place told. left.prefix.lasts place (was_told place told);
+      lasts = λ place settled_then. left.prefix.lasts place (was_settled place settled_then);
     };
     homes = λ since. left.homes since ∙ sym (same left.prefix.count few);
   }
     where
-      entries_are : take left.prefix.count (entries_of (with_noted t noted))
+      entries_are : take left.prefix.count (entries_of (with_traced t traced))
           ≡ take left.prefix.count (entries_of t)
       entries_are =
           let long : length (entries_of t) ≡ length t.history = length_map t.history in
           let fits = few in
-          ap (λ (es : List Entry). take left.prefix.count es) (entries_then t noted)
-          ∙ take-append-le left.prefix.count (entries_of t) (map entry_of (listed noted.entry))
+          ap (λ (es : List Entry). take left.prefix.count es) (entries_then t traced)
+          ∙ take-append-le left.prefix.count (entries_of t) (map entry_of (listed traced.entry))
           (omega (arith, long, fits))
         where
           length_map : (cs : List Committed) → length (map entry_of cs) ≡ length cs
@@ -166,17 +166,17 @@ all_by_now start t now early = go t.history early
         let one = ap one_if first in
         omega (arith, count, one, rest)
 
-module _ (b : Beginning) (o : Setting) (t : Transcript) (base : Image) (side : StoreSide) (fetches : List Fetch)
-    (last : Tree) (run : IsRun b o t base side fetches last) (image : Image)
-    (stop : LeavesBlocks base side.core (b.first + 1) b.tree (entries_of t) image)
-    (settled_is : settled_told (told_now b.events t).log ≡ settled_place side.core.log) where
+module _ (b : Beginning) (o : Setting) (t : Transcript) (base : Image) (store_state : StoreState) (fetches : List Fetch)
+    (last : Tree) (run : IsRun b o t base store_state fetches last) (image : Image)
+    (stop : LeavesBlocks base store_state.core (b.first + 1) b.tree (entries_of t) image)
+    (settled_is : state_settled (state_now b.events t).log ≡ settled_place store_state.core.log) where
   abbrev start : ℕ
   start = b.opened.clock
 
-  pub now_is : side.device.clock ≡ start + clock_now t
+  pub now_is : store_state.device.clock ≡ start + clock_now t
   now_is = let moved = run.moved.calls in let clock = clock_is t in omega (arith, moved, clock)
 
-  size_is : side.core.log.blocks ≡ b.opened.size
+  size_is : store_state.core.log.blocks ≡ b.opened.size
   size_is = sym run.running.since.over.agrees.agrees.size ∙ run.moved.past.size
 
   calls_before : (index : ℕ) → index ≤ length t.steps → device_calls t index ≤ clock_now t
@@ -195,7 +195,7 @@ module _ (b : Beginning) (o : Setting) (t : Transcript) (base : Image) (side : S
 
   -- each was committed at a clock so far
   committed_by_now : (index : ℕ) (c : Committed) → slice_get t.history index ≡ Some c
-      → start + c.clock ≤ side.device.clock
+      → start + c.clock ≤ store_state.device.clock
   committed_by_now index c at =
       let was = run.well.history.each index c at in
       let clock = was.clock in
@@ -209,36 +209,36 @@ module _ (b : Beginning) (o : Setting) (t : Transcript) (base : Image) (side : S
           by_length : (is : Bool) → nat_le event (length t.steps) ≡ is → device_calls t event ≤ clock_now t
           by_length true is = calls_before event (leb-true event (length t.steps) is)
           by_length false is =
-              let far = leb-false event (length t.steps) is in
+              let beyond_all = leb-false event (length t.steps) is in
               let all : device_calls t event ≡ clock_now t =
               ap (λ (steps : List (Option Step)). count_by calls_device steps)
-              (take_all event t.steps (omega (arith, far)))
+              (take_all event t.steps (omega (arith, beyond_all)))
               ∙ sym (clock_is t) in
               omega (arith, all)
 
-  pub left_now : LeavesSoFar b.opened.size b.first b.tree b.events start t o.blocks side.device.clock image
+  pub left_now : LeavesSoFar b.opened.size b.first b.tree b.events start t o.blocks store_state.device.clock image
   left_now = record {
     prefix = record {
       boot = stop.files.boot;
-      boot_is = record { either = inr stop.files.boot_is; raised = λ since. stop.files.boot_is };
+      boot_is = record { either = inr stop.files.boot_is; boot_incremented = λ since. stop.files.boot_is };
       left = stop.files.left;
       good = subst (λ (size : ℕ). IsGoodImage size image stop.files.left stop.files.boot) size_is
           stop.files.good;
       count = stop.files.count;
       few = (let few = stop.files.few in
-          let all = all_by_now start t side.device.clock committed_by_now in
+          let all = all_by_now start t store_state.device.clock committed_by_now in
           let long = length_entries t.history in
           omega (arith, few, all, long));
       prefix = stop.files.prefix;
-      lasts = λ place told. stop.files.lasts place (
-          let rises = what_was_told_stays b.events t.steps told.index (length t.steps) told.within in
-          let settled = told.settled in
+      lasts = λ place settled_then. stop.files.lasts place (
+          let rises = settled_state_stays b.events t.steps settled_then.index (length t.steps) settled_then.within in
+          let settled = settled_then.settled in
           let is = settled_is in
           omega (arith, rises, settled, is));
     };
     homes = λ since. subst (λ (size : ℕ). homes_of size (over image)
-        ≡ blocks_after base side.core (stop.files.count - installed_place side.core.log)) size_is stop.homes
-        ∙ sym (run.running.placed (stop.files.count - installed_place side.core.log))
+        ≡ blocks_after base store_state.core (stop.files.count - installed_place store_state.core.log)) size_is stop.homes
+        ∙ sym (run.running.placed (stop.files.count - installed_place store_state.core.log))
         ∙ ap o.blocks (let behind = stop.behind in omega (arith, behind));
   }
     where
@@ -248,42 +248,42 @@ module _ (b : Beginning) (o : Setting) (t : Transcript) (base : Image) (side : S
 
 -- ---- the past once an event was taken
 
-module _ (b : Beginning) (o later : Setting) (t : Transcript) (base home : Image) (side new : StoreSide)
-    (fetches left : List Fetch) (last next : Tree) (noted : Noted)
-    (run : IsRun b o t base side fetches last) (goes : GoesOn b o t side noted later home new left next)
-    (told_stays : (index : ℕ) → index ≤ length t.steps
-    → told_before b.events (with_noted t noted).steps index ≡ told_before b.events t.steps index)
-    (now : (image : Image) → IsCrashImage side.device side.device.clock image
-    → LeavesSoFar b.opened.size b.first b.tree b.events b.opened.clock t o.blocks side.device.clock image) where
-  clock_new : new.device.clock ≡ b.opened.clock + clock_now (with_noted t noted)
+module _ (b : Beginning) (o later : Setting) (t : Transcript) (base home : Image) (store_state new : StoreState)
+    (fetches left : List Fetch) (last next : Tree) (traced : Traced)
+    (run : IsRun b o t base store_state fetches last) (goes : GoesOn b o t store_state traced later home new left next)
+    (state_stays : (index : ℕ) → index ≤ length t.steps
+    → state_before b.events (with_traced t traced).steps index ≡ state_before b.events t.steps index)
+    (now : (image : Image) → IsCrashImage store_state.device store_state.device.clock image
+    → LeavesSoFar b.opened.size b.first b.tree b.events b.opened.clock t o.blocks store_state.device.clock image) where
+  clock_new : new.device.clock ≡ b.opened.clock + clock_now (with_traced t traced)
   clock_new =
       let moved = run.moved.calls in
       let clock = clock_is t in
       let calls = goes.device.calls in
-      let more = clock_then t noted in
+      let more = clock_then t traced in
       omega (arith, moved, clock, calls, more)
 
-  pub past_then : HasLeft b.before b.opened.size b.first b.tree b.events b.opened.clock (with_noted t noted)
+  pub past_then : HasLeft b.before b.opened.size b.first b.tree b.events b.opened.clock (with_traced t traced)
       later.blocks new.device
   past_then clock image from to crash =
-      left_then b.opened.size b.first b.tree b.events b.opened.clock t noted o.blocks later.blocks clock image
-      goes.blocks told_stays (let is = clock_new in omega (arith, to, is))
-      (by_clock (either clock side.device.clock so_far))
+      left_then b.opened.size b.first b.tree b.events b.opened.clock t traced o.blocks later.blocks clock image
+      goes.blocks state_stays (let is = clock_new in omega (arith, to, is))
+      (by_clock (either clock store_state.device.clock so_far))
     where
-      so_far : clock ≤ side.device.clock
-      so_far = let calls = goes.device.calls in let few = at_most (calls_device noted.made) in
+      so_far : clock ≤ store_state.device.clock
+      so_far = let calls = goes.device.calls in let few = at_most (calls_device traced.made) in
           omega (arith, to, calls, few)
         where
           at_most : (is : Bool) → one_if is ≤ 1
           at_most true = omega arith
           at_most false = omega arith
 
-      before_it : IsCrashImage side.device clock image
-      before_it = as_before side.device new.device clock image goes.device.past so_far crash
+      before_it : IsCrashImage store_state.device clock image
+      before_it = as_before store_state.device new.device clock image goes.device.past so_far crash
 
-      by_clock : (clock < side.device.clock) ⊎ (clock ≡ side.device.clock)
+      by_clock : (clock < store_state.device.clock) ⊎ (clock ≡ store_state.device.clock)
           → LeavesSoFar b.opened.size b.first b.tree b.events b.opened.clock t o.blocks clock image
       by_clock (inl early) = run.past clock image from early before_it
       by_clock (inr at) =
           subst (λ (n : ℕ). LeavesSoFar b.opened.size b.first b.tree b.events b.opened.clock t o.blocks n image)
-          (sym at) (now image (subst (λ (n : ℕ). IsCrashImage side.device n image) at before_it))
+          (sym at) (now image (subst (λ (n : ℕ). IsCrashImage store_state.device n image) at before_it))

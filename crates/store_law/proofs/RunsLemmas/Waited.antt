@@ -13,23 +13,23 @@ use Rattle.store_promise.specs.declared.events.Event.{Event}
 use Rattle.store_promise.specs.declared.events.Event.TheVariants as event
 use Rattle.store_promise.specs.declared.events.Step.{Step}
 use Rattle.store_promise.specs.declared.events.Step.TheVariants as step
-use Rattle.store_promise.specs.declared.events.Wish.{Wish}
-use Rattle.store_promise.specs.declared.events.Wish.TheVariants as wish
+use Rattle.store_promise.specs.declared.events.LockAnswer.{LockAnswer}
+use Rattle.store_promise.specs.declared.events.LockAnswer.TheVariants as lock_answer
 use Rattle.store_promise.specs.declared.transcript.Committed.{Committed}
 use Rattle.store_promise.specs.History.{IsHistory, WasCommitted}
 use Rattle.store_promise.specs.Progress.{Again, At, Begun, Called, Idle, Job, Planning, Progress, Read, Reading}
 use Rattle.store_promise.specs.Progress.{Refused, Stage, Taken, Waiting, after_claimed, after_commit}
-use Rattle.store_promise.specs.Aims.{is_barred}
-use Rattle.store_promise.specs.Progress.{after_planning, aim_of, kept_off}
-use Rattle.store_promise.specs.declared.aims.Aim.{Aim}
-use Rattle.store_promise.specs.declared.aims.Aim.TheVariants as aim
+use Rattle.store_promise.specs.LockRequests.{is_barred}
+use Rattle.store_promise.specs.Progress.{after_planning, lock_request_of, deferred}
+use Rattle.store_promise.specs.declared.lock_requests.LockRequest.{LockRequest}
+use Rattle.store_promise.specs.declared.lock_requests.LockRequest.TheVariants as lock_request
 use Rattle.store_promise.specs.Progress.{after_waiting, after_wanted, going_on, progressed, stage_after}
-use Rattle.store_promise.specs.Schedule.{IsStepOfRead, Schedule, Setting, Told}
+use Rattle.store_promise.specs.Schedule.{IsStepOfRead, Schedule, Setting, RunState}
 use Rattle.store_promise.specs.EventSteps.{AreTaken, IsTaken}
 use Rattle.store_promise.specs.Schedule.{progress_before}
-use Rattle.store_promise.specs.Schedule.{told_after, told_before}
+use Rattle.store_promise.specs.Schedule.{state_after, state_before}
 use Rattle.store_promise.specs.Transcript.{Transcript, committed_at, made, step_at}
-use Rattle.store_promise.proofs.Told.{get_within, told_next}
+use Rattle.store_promise.proofs.RunStates.{get_within, state_next_is}
 
 -- ---- the step that brings a worker to wait
 
@@ -43,30 +43,30 @@ module _ (place : ℕ) where
   abbrev there : Option Stage
   there = Some (Waiting place)
 
-  off : (begun : Begun) (wished : Aim) → Some (kept_off begun wished) ≡ there → ⊥
-  off begun wished is = by (is_barred wished begun.taken) is
+  off : (begun : Begun) (request : LockRequest) → Some (deferred begun request) ≡ there → ⊥
+  off begun request is = by (is_barred request begun.taken) is
     where
-      by : (above : Bool) → Some (if above then Again begun (Some wished) else Planning begun) ≡ there → ⊥
+      by : (above : Bool) → Some (if above then Again begun (Some request) else Planning begun) ≡ there → ⊥
       by true is = cc
       by false is = cc
 
-  by_wanted : (begun : Begun) (taken : Taken) (answer : Wish)
+  by_wanted : (begun : Begun) (taken : Taken) (answer : LockAnswer)
       → Some (after_wanted begun taken answer) ≡ there → ⊥
-  by_wanted begun taken wish.Held is = cc
-  by_wanted begun taken wish.Fetch is = cc
-  by_wanted begun taken wish.Busy is = off begun (aim_of taken) is
-  by_wanted begun taken wish.Loading is = off begun (aim_of taken) is
-  by_wanted begun taken wish.Outside is = cc
-  by_wanted begun taken wish.NoMemory is = cc
+  by_wanted begun taken lock_answer.Held is = cc
+  by_wanted begun taken lock_answer.Fetch is = cc
+  by_wanted begun taken lock_answer.Busy is = off begun (lock_request_of taken) is
+  by_wanted begun taken lock_answer.Loading is = off begun (lock_request_of taken) is
+  by_wanted begun taken lock_answer.Outside is = cc
+  by_wanted begun taken lock_answer.NoMemory is = cc
 
-  by_claimed : (begun : Begun) (block : BlockNo) (answer : Wish)
+  by_claimed : (begun : Begun) (block : BlockNo) (answer : LockAnswer)
       → Some (after_claimed begun block answer) ≡ there → ⊥
-  by_claimed begun block wish.Held is = cc
-  by_claimed begun block wish.Fetch is = cc
-  by_claimed begun block wish.Busy is = off begun (aim.Claim block) is
-  by_claimed begun block wish.Loading is = off begun (aim.Claim block) is
-  by_claimed begun block wish.Outside is = cc
-  by_claimed begun block wish.NoMemory is = cc
+  by_claimed begun block lock_answer.Held is = cc
+  by_claimed begun block lock_answer.Fetch is = cc
+  by_claimed begun block lock_answer.Busy is = off begun (lock_request.Claim block) is
+  by_claimed begun block lock_answer.Loading is = off begun (lock_request.Claim block) is
+  by_claimed begun block lock_answer.Outside is = cc
+  by_claimed begun block lock_answer.NoMemory is = cc
 
   by_commit : (stable : Bool) (begun : Begun) (blocks : List BlockNo) (answer : Committing)
       → after_commit stable begun answer ≡ there → Waits (Planning begun) (step.Commit blocks answer) place
@@ -100,7 +100,7 @@ module _ (place : ℕ) where
   by_waiting broken at (step.Stable seq settled) is = waiting_still (settled || broken) at is
   by_waiting broken at _ is = cc
 
-  by_called : (broken stable : Bool) (known : List Aim) (made : Step)
+  by_called : (broken stable : Bool) (known : List LockRequest) (made : Step)
       → stage_after broken stable made (Called known) ≡ there → ⊥
   by_called broken stable known (step.Begun (Ok number)) is = cc
   by_called broken stable known (step.Begun (Err why)) is = cc
@@ -119,7 +119,7 @@ module _ (place : ℕ) where
   by_stage broken stable made (Read begun taken true) is = cc
   by_stage broken stable made (Read begun taken false) is = cc
   by_stage broken stable made (Refused begun why) is = cc
-  by_stage broken stable made (Again begun wished) is = cc
+  by_stage broken stable made (Again begun request) is = cc
   by_stage broken stable made (Waiting at) is = still (by_waiting broken at made is)
 
   going : (one job : Job) (next : Option Stage) → going_on one next ≡ At job (Waiting place)
@@ -149,79 +149,79 @@ module _ (place : ℕ) where
 
   -- ---- an event
 
-  pub data Came (told : Told) (now : Event) (m : Option Step) (worker : ℕ) (job : Job) : Type 0 where
-    before : told.workers worker ≡ At job (Waiting place) → Came told now m worker job
+  pub data Came (run_state : RunState) (now : Event) (m : Option Step) (worker : ℕ) (job : Job) : Type 0 where
+    before : run_state.workers worker ≡ At job (Waiting place) → Came run_state now m worker job
     with_it : (begun : Begun) (blocks : List BlockNo) → now ≡ event.Work worker
-        → told.workers worker ≡ At job (Planning begun)
+        → run_state.workers worker ≡ At job (Planning begun)
         → m ≡ Some (step.Commit blocks (committing.Committed (record { 0 = place })))
-        → Came told now m worker job
+        → Came run_state now m worker job
 
-  module _ (told : Told) (worker : ℕ) (job : Job) where
+  module _ (run_state : RunState) (worker : ℕ) (job : Job) where
     same_number : (number : ℕ) → nat_eq worker number ≡ true → number ≡ worker
     same_number number is = grind (arith, nat_tests)
 
     by_call : (one : Job) (now : Event) (m : Option Step) (same : Bool)
-        → (if same then At one (Called []) else told.workers worker) ≡ At job (Waiting place)
-        → Came told now m worker job
+        → (if same then At one (Called []) else run_state.workers worker) ≡ At job (Waiting place)
+        → Came run_state now m worker job
     by_call one now m true is = cc
     by_call one now m false is = before is
 
     by_work : (number : ℕ) (one : Step) (same : Bool) → nat_eq worker number ≡ same
-        → (if same then progressed told.log.broken one (told.workers number) else told.workers worker)
-        ≡ At job (Waiting place) → Came told (event.Work number) (Some one) worker job
+        → (if same then progressed run_state.log.broken one (run_state.workers number) else run_state.workers worker)
+        ≡ At job (Waiting place) → Came run_state (event.Work number) (Some one) worker job
     by_work number one false same is = before is
     by_work number one true same is =
         let numbers = same_number number same in
-        by_case numbers (by_progress told.log.broken one (told.workers worker) job
-        (ap (λ (n : ℕ). progressed told.log.broken one (told.workers n)) (sym numbers) ∙ is))
+        by_case numbers (by_progress run_state.log.broken one (run_state.workers worker) job
+        (ap (λ (n : ℕ). progressed run_state.log.broken one (run_state.workers n)) (sym numbers) ∙ is))
       where
-        by_case : number ≡ worker → WaitsWith (told.workers worker) one job
-            → Came told (event.Work number) (Some one) worker job
+        by_case : number ≡ worker → WaitsWith (run_state.workers worker) one job
+            → Came run_state (event.Work number) (Some one) worker job
         by_case numbers (waited so) = before so
         by_case numbers (commits begun blocks so made_is) =
             with_it begun blocks (ap event.Work numbers) so (ap (λ (s : Step). Some s) made_is)
 
     no_read : (number : ℕ) (one : Step) (begun : Begun) (o : Setting) (workers : ℕ)
-        → IsTaken o workers told (event.Read number) (Some one) → number ≡ worker
-        → told.workers worker ≡ At job (Planning begun) → ⊥
+        → IsTaken o workers run_state (event.Read number) (Some one) → number ≡ worker
+        → run_state.workers worker ≡ At job (Planning begun) → ⊥
     no_read number one begun o workers taken numbers planning = elim (cases_lt number workers) [
       | inl less ↦
-          let none = subst (λ p. IsStepOfRead p (Some one)) (ap told.workers numbers ∙ planning)
-          (own_step o workers told (event.Read number) (Some one) taken less) in cc
-      | inr far ↦ let none = taken.others (λ less. omega (arith, less, far)) in cc
+          let none = subst (λ p. IsStepOfRead p (Some one)) (ap run_state.workers numbers ∙ planning)
+          (own_step o workers run_state (event.Read number) (Some one) taken less) in cc
+      | inr beyond_all ↦ let none = taken.others (λ less. omega (arith, less, beyond_all)) in cc
     ]
 
     by_own_read : (number : ℕ) (one : Step) (o : Setting) (workers : ℕ)
-        → IsTaken o workers told (event.Read number) (Some one) → (same : Bool) → nat_eq worker number ≡ same
-        → (if same then progressed told.log.broken one (told.workers number) else told.workers worker)
-        ≡ At job (Waiting place) → Came told (event.Read number) (Some one) worker job
+        → IsTaken o workers run_state (event.Read number) (Some one) → (same : Bool) → nat_eq worker number ≡ same
+        → (if same then progressed run_state.log.broken one (run_state.workers number) else run_state.workers worker)
+        ≡ At job (Waiting place) → Came run_state (event.Read number) (Some one) worker job
     by_own_read number one o workers taken false same is = before is
     by_own_read number one o workers taken true same is =
         let numbers = same_number number same in
-        by_case numbers (by_progress told.log.broken one (told.workers worker) job
-        (ap (λ (n : ℕ). progressed told.log.broken one (told.workers n)) (sym numbers) ∙ is))
+        by_case numbers (by_progress run_state.log.broken one (run_state.workers worker) job
+        (ap (λ (n : ℕ). progressed run_state.log.broken one (run_state.workers n)) (sym numbers) ∙ is))
       where
-        by_case : number ≡ worker → WaitsWith (told.workers worker) one job
-            → Came told (event.Read number) (Some one) worker job
+        by_case : number ≡ worker → WaitsWith (run_state.workers worker) one job
+            → Came run_state (event.Read number) (Some one) worker job
         by_case numbers (waited so) = before so
         by_case numbers (commits begun blocks so made_is) =
             absurd (no_read number one begun o workers taken numbers so)
 
-  came : (o : Setting) (workers : ℕ) (told : Told) (now : Event) (m : Option Step) (worker : ℕ) (job : Job)
-      → IsTaken o workers told now m → (told_after told now m).workers worker ≡ At job (Waiting place)
-      → Came told now m worker job
-  came o workers told now None worker job taken is = before is
-  came o workers told (event.Call number credential moment call) (Some one) worker job taken is =
-      by_call told worker job (record { credential = credential; moment = moment; call = call })
+  came : (o : Setting) (workers : ℕ) (run_state : RunState) (now : Event) (m : Option Step) (worker : ℕ) (job : Job)
+      → IsTaken o workers run_state now m → (state_after run_state now m).workers worker ≡ At job (Waiting place)
+      → Came run_state now m worker job
+  came o workers run_state now None worker job taken is = before is
+  came o workers run_state (event.Call number credential moment call) (Some one) worker job taken is =
+      by_call run_state worker job (record { credential = credential; moment = moment; call = call })
       (event.Call number credential moment call) (Some one) (nat_eq worker number) is
-  came o workers told (event.Work number) (Some one) worker job taken is =
-      by_work told worker job number one (nat_eq worker number) refl is
-  came o workers told (event.Read number) (Some one) worker job taken is =
-      by_own_read told worker job number one o workers taken (nat_eq worker number) refl is
-  came o workers told event.Log (Some one) worker job taken is = before is
-  came o workers told event.LogIo (Some one) worker job taken is = before is
-  came o workers told event.Install (Some one) worker job taken is = before is
-  came o workers told event.InstIo (Some one) worker job taken is = before is
+  came o workers run_state (event.Work number) (Some one) worker job taken is =
+      by_work run_state worker job number one (nat_eq worker number) refl is
+  came o workers run_state (event.Read number) (Some one) worker job taken is =
+      by_own_read run_state worker job number one o workers taken (nat_eq worker number) refl is
+  came o workers run_state event.Log (Some one) worker job taken is = before is
+  came o workers run_state event.LogIo (Some one) worker job taken is = before is
+  came o workers run_state event.Install (Some one) worker job taken is = before is
+  came o workers run_state event.InstIo (Some one) worker job taken is = before is
 
 -- ---- along a run
 
@@ -276,15 +276,15 @@ module _ (o : Setting) (workers : ℕ) (events : Schedule) (t : Transcript)
       let some_event = get_within events index (let few = taken.fewer in omega (arith, within, few)) in
       by_case some_event.0 some_step.0 some_event.1 some_step.1
       (λ so. waits_for_its_own index (omega (arith, within)) so)
-      (came place o workers (told_before events t.steps index) some_event.0 some_step.0 worker job
+      (came place o workers (state_before events t.steps index) some_event.0 some_step.0 worker job
       (taken.each index some_event.0 some_step.0 some_event.1 some_step.1)
-      (sym (ap (λ (told : Told). told.workers worker)
-      (told_next events t.steps index some_event.0 some_step.0 some_event.1 some_step.1)) ∙ is))
+      (sym (ap (λ (run_state : RunState). run_state.workers worker)
+      (state_next_is events t.steps index some_event.0 some_step.0 some_event.1 some_step.1)) ∙ is))
     where
       by_case : (now : Event) (m : Option Step) → slice_get events index ≡ Some now
           → slice_get t.steps index ≡ Some m
           → (progress_before events t.steps worker index ≡ At job (Waiting place) → IsItsOwn)
-          → Came place (told_before events t.steps index) now m worker job → IsItsOwn
+          → Came place (state_before events t.steps index) now m worker job → IsItsOwn
       by_case now m is_event is_step earlier (before so) = earlier so
       by_case now m is_event is_step earlier (with_it begun blocks work so made_is) =
           by_entry index blocks begun (is_event ∙ ap (λ (e : Event). Some e) work)

@@ -46,8 +46,8 @@ pub record IsLife (life : List EndedRun) : Type 0 where
 -- what had been committed by the crash: where the store was opened, the entries with a clock by then
 abbrev pub committed_by : ℕ → ℕ → Result Report OpenFault → List Entry
 committed_by later crash (Ok report) =
-    take (commits_by (later - device_calls report.told (length report.told.steps)) report.told crash)
-    (entries_of report.told)
+    take (commits_by (later - device_calls report.run_transcript (length report.run_transcript.steps)) report.run_transcript crash)
+    (entries_of report.run_transcript)
 committed_by later crash (Err cause) = []
 
 -- the run as far as it counts

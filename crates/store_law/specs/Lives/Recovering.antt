@@ -5,7 +5,7 @@ use Rattle.disk.specs.Device.{Device}
 use Rattle.nfs_spec.specs.Model.Tree.{Tree}
 use Rattle.store_law.specs.Lives.Life.{LeavesImage}
 use Rattle.store_promise.specs.GoodImage.{IsGoodImage}
-use Rattle.store_promise.specs.Openings.{KeepsTree}
+use Rattle.store_promise.specs.Openings.{PreservesTree}
 
 -- An opening, from a device to what it became, and a crash at a clock of it: at its end, or sooner.
 pub record StoppedOpening : Type 0 where
@@ -20,7 +20,7 @@ Holds d tree first = (image : Image) → IsCrashImage d d.clock image → IsGood
 -- What an opening keeps, come what may of it: the tree of a good image stays at each stop.
 pub record IsStopped (o : StoppedOpening) : Type 0 where
   pub rest : IsAtRest o.before
-  pub keeps : (tree : Tree) (first : ℕ) → Holds o.before tree first → KeepsTree o.before o.later tree first
+  pub preserves : (tree : Tree) (first : ℕ) → Holds o.before tree first → PreservesTree o.before o.later tree first
   pub begun : o.before.clock ≤ o.crash
   pub ended : o.crash ≤ o.later.clock
 

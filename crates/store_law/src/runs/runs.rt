@@ -5,14 +5,14 @@ ghost use Rattle.nfs_spec.specs.Model.Tree.{Tree};
 ghost use Rattle.layout.specs.declared.geometry.Geometry.{Geometry};
 ghost use Rattle.txn_law.specs.Core.{CoreState};
 ghost use Rattle.txn_law.specs.Fetch.{Fetch};
-ghost use Rattle.store_promise.specs.Headline.{KeepsPromise};
+ghost use Rattle.store_promise.specs.Headline.{PreservesPromise};
 ghost use Rattle.store_promise.specs.OpenSince.{file_blocks};
 ghost use Rattle.store_promise.specs.OpenStore.{IsNewOver};
 ghost use Rattle.store_promise.specs.Openings.{IsOpened, LeavesImages};
-ghost use Rattle.store_promise.specs.Running.{StoreSide, at_rest};
+ghost use Rattle.store_promise.specs.Running.{StoreState, at_rest};
 ghost use Rattle.store_promise.specs.Schedule.{Setting};
 ghost use Rattle.store_promise.specs.Transcript.{Transcript};
-ghost use Rattle.store_law.specs.Runs.Noting.{Noted, with_noted};
+ghost use Rattle.store_law.specs.Runs.Tracing.{Traced, with_traced};
 ghost use Rattle.store_law.specs.Runs.Run.{Beginning, GoesOn, IsRun};
 
 /// An opening begins a run, of which nothing is told yet, over what is at home.
@@ -32,26 +32,26 @@ pub fn a_run_begins()
 
 /// Each event leaves it going.
 pub fn a_run_goes_on()
-    ensures { (b : Beginning) (o later : Setting) (t : Transcript) (base home : Image) (side new : StoreSide)
-        (fetches left : List Fetch) (last next : Tree) (noted : Noted)
-        → IsRun b o t base side fetches last → GoesOn b o t side noted later home new left next
-        → IsRun b later (with_noted t noted) home new left next }
+    ensures { (b : Beginning) (o later : Setting) (t : Transcript) (base home : Image) (store_state new : StoreState)
+        (fetches left : List Fetch) (last next : Tree) (traced : Traced)
+        → IsRun b o t base store_state fetches last → GoesOn b o t store_state traced later home new left next
+        → IsRun b later (with_traced t traced) home new left next }
 {
     store_promise::a_stop_leaves_a_beginning();
-    store_promise::what_is_settled_is_told();
+    store_promise::log_state_has_what_is_settled();
     store_promise::a_device_counts_the_calls_of_its_steps();
-    crate::runs::what_is_told_grows();
+    crate::runs::what_is_traced_grows();
 }
 
 /// So it keeps its promise, whenever no event comes any more: where each stop leaves some image, as on a
 /// device that keeps its model.
-pub fn a_run_keeps_its_promise()
-    ensures { (b : Beginning) (o : Setting) (t : Transcript) (base : Image) (side : StoreSide)
-        (fetches : List Fetch) (last : Tree) → IsRun b o t base side fetches last
-        → LeavesImages b.before side.device
-        → KeepsPromise b.before side.device b.tree b.first b.workers b.events t }
+pub fn a_run_preserves_its_promise()
+    ensures { (b : Beginning) (o : Setting) (t : Transcript) (base : Image) (store_state : StoreState)
+        (fetches : List Fetch) (last : Tree) → IsRun b o t base store_state fetches last
+        → LeavesImages b.before store_state.device
+        → PreservesPromise b.before store_state.device b.tree b.first b.workers b.events t }
 {
     store_promise::a_stop_leaves_a_beginning();
-    store_promise::what_is_settled_is_told();
+    store_promise::log_state_has_what_is_settled();
     nfs_spec::no_stable_answer_tells_a_failure();
 }

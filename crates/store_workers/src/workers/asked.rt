@@ -8,14 +8,14 @@ use objects::{Addr, Mode};
 use std::marker::Model;
 use std::snapshot::Snapshot;
 
-// The object whose block is fetched or was fetched last, in which mode it is wished, and the call whose procedure was committed and waits for
+// The object whose block is fetched or was fetched last, in which mode it is asked for, and the call whose procedure was committed and waits for
 // its place. They serve proofs alone, and the second takes no memory.
 #[derive(Drop)]
 pub(crate) struct Asked {
-    wish: Option<Addr>,
+    fetch_addr: Option<Addr>,
     mode: Mode,
     waiting: Option<Snapshot<Job>>,
-    room: u32,
+    alloc_cursor: u32,
 }
 
 impl Model for Asked {
@@ -25,7 +25,7 @@ impl Model for Asked {
     ghost Value = { Asking };
 
     ghost view = { λ a. record {
-      wish = a.wish;
+      fetch_addr = a.fetch_addr;
       mode = a.mode;
       waiting = option_map (λ job. job.value) a.waiting;
     } };
@@ -33,27 +33,27 @@ impl Model for Asked {
 
 impl Asked {
     // Nothing yet. Free blocks are looked for from this piece of their bitmap on, which no clause speaks of.
-    pub(super) fn new(room: u32) -> Asked
-        ensures { result ≡ record { wish = None; mode = modes.Exclusive; waiting = None } }
+    pub(super) fn new(alloc_cursor: u32) -> Asked
+        ensures { result ≡ record { fetch_addr = None; mode = modes.Exclusive; waiting = None } }
     {
         Asked {
-            wish: None,
+            fetch_addr: None,
             mode: Mode::Exclusive,
             waiting: None,
-            room,
+            alloc_cursor,
         }
     }
 
     // The piece of the bitmap from which free blocks are looked for, where no call told another.
-    pub(super) fn room(&self) -> u32 {
-        self.room
+    pub(super) fn alloc_cursor(&self) -> u32 {
+        self.alloc_cursor
     }
 
-    // The block of this object, which is wished in this mode, is to be fetched.
-    pub(super) fn wish_for(&mut self, addr: Addr, mode: Mode)
-        ensures { self.new ≡ record self.old { wish = Some addr; mode = mode } }
+    // The block of this object, which is asked for in this mode, is to be fetched.
+    pub(super) fn begin_fetch(&mut self, addr: Addr, mode: Mode)
+        ensures { self.new ≡ record self.old { fetch_addr = Some addr; mode = mode } }
     {
-        self.wish = Some(addr);
+        self.fetch_addr = Some(addr);
         self.mode = mode;
     }
 

@@ -1,19 +1,22 @@
 //! What a worker's call knows: what it has taken, and was kept off from.
-ghost use Rattle.std.specs.Prelude.{[], ◌≡◌, ◌<◌, ◌++◌, ◌∷◌, nat_le, position, true, vec_len, vec_capacity};
-ghost use Rattle.store_promise.specs.Aims.{Rises, inserted, is_barred, rank_of};
+ghost use Rattle.std.specs.Prelude.{[], ◌≡◌, ◌<◌, ◌≤◌, ◌++◌, ◌∷◌, nat_le, position, take, true};
+ghost use Rattle.std.specs.VecDeque.{deque_len, deque_capacity};
+ghost use Rattle.store_promise.specs.LockRequests.{Rises, inserted, is_barred, rank_of};
 
 use std::alloc::{AllocError, Global};
+use std::collections::VecDeque;
 use std::marker::Model;
-use store_promise::Aim;
+use store_promise::LockRequest;
 
 // What a call knows, from the lowest on; how much of it its transaction has taken; what it was kept off from;
-// and whether room was made for one more.
+// and whether room was made for one more. What comes in rising or in falling order is put at an end, and moves none of
+// the others.
 #[derive(Drop)]
 pub(crate) struct Known {
-    aims: Vec<Aim>,
+    lock_requests: VecDeque<LockRequest>,
     taken: usize,
-    off: Option<Aim>,
-    room: bool,
+    off: Option<LockRequest>,
+    has_space: bool,
 }
 
 impl Model for Known {
@@ -23,34 +26,35 @@ impl Model for Known {
     ghost Value = { Knowing };
 
     ghost view = { λ k. record {
-      taken = take k.taken k.aims.items;
-      left = drop k.taken k.aims.items;
+      taken = take k.taken k.lock_requests.items;
+      left = drop k.taken k.lock_requests.items;
       off = k.off;
-      room = k.room;
+      has_space = k.has_space;
     } };
 
-    ghost use Rattle.std.specs.Prelude.{◌≡◌, ◌≤◌, ◌<◌, true, is_some, vec_len, vec_capacity};
-    ghost use Rattle.store_promise.specs.Aims.{Rises};
+    ghost use Rattle.std.specs.Prelude.{◌≡◌, ◌≤◌, ◌<◌, true, is_some};
+    ghost use Rattle.std.specs.VecDeque.{deque_len, deque_capacity};
+    ghost use Rattle.store_promise.specs.LockRequests.{Rises};
 
-    ghost invariant = { λ k. (k.taken ≤ vec_len k.aims) × Rises k.aims.items
-        × (is_some k.off ≡ true → k.room ≡ true)
-        × (k.room ≡ true → vec_len k.aims < vec_capacity k.aims) };
+    ghost invariant = { λ k. (k.taken ≤ deque_len k.lock_requests) × Rises k.lock_requests.items
+        × (is_some k.off ≡ true → k.has_space ≡ true)
+        × (k.has_space ≡ true → deque_len k.lock_requests < deque_capacity k.lock_requests) };
 }
 
 impl Known {
     ghost use Rattle.std.specs.Prelude.{Some, None, [], true, false, OnOk, OnErr};
-    ghost use Rattle.store_promise.specs.Aims.{is_barred};
-    ghost use Rattle.store_workers.specs.Knowing.{IsNextOf, first_of, given_back, nothing_known, with_aim, with_off, without_off};
+    ghost use Rattle.store_promise.specs.LockRequests.{is_barred};
+    ghost use Rattle.store_workers.specs.Knowing.{IsNextOf, first_of, given_back, nothing_known, with_lock_request, with_off, without_off};
 
     // Nothing yet.
     pub(crate) fn new(alloc: Global) -> Known
         ensures { result ≡ nothing_known }
     {
         Known {
-            aims: Vec::new(alloc),
+            lock_requests: VecDeque::new(alloc),
             taken: 0,
             off: None,
-            room: false,
+            has_space: false,
         }
     }
 
@@ -58,59 +62,59 @@ impl Known {
     pub(crate) fn forget(&mut self)
         ensures { self.new ≡ nothing_known }
     {
-        self.room = false;
+        self.has_space = false;
         self.off = None;
         self.taken = 0;
-        self.aims.clear();
+        self.lock_requests.clear();
     }
 
     // Makes room for one more.
-    pub(crate) fn make_room(&mut self) -> Result<(), AllocError>
-        ensures room { OnOk result (self.new ≡ record self.old { room = true }) }
+    pub(crate) fn reserve_next(&mut self) -> Result<(), AllocError>
+        ensures has_space { OnOk result (self.new ≡ record self.old { has_space = true }) }
         ensures same { OnErr result (self.new ≡ self.old) }
     {
-        self.aims.reserve(1)?;
-        self.room = true;
+        self.lock_requests.reserve(1)?;
+        self.has_space = true;
         Ok(())
     }
 
     // What is to be taken again next.
-    pub(crate) fn next(&self) -> Option<Aim>
+    pub(crate) fn next(&self) -> Option<LockRequest>
         ensures { result ≡ first_of self.now.left }
     {
-        self.aims.get(self.taken).copied()
+        self.lock_requests.get(self.taken).copied()
     }
 
     // Notes that the transaction has taken this, the next of what is left, if anything is.
-    pub(crate) fn take(&mut self, one: Aim)
+    pub(crate) fn take(&mut self, one: LockRequest)
         requires next { IsNextOf one self.old.left }
-        requires room { self.old.left ≡ [] → self.old.room ≡ true }
-        ensures { self.new ≡ with_aim one self.old }
+        requires has_space { self.old.left ≡ [] → self.old.has_space ≡ true }
+        ensures { self.new ≡ with_lock_request one self.old }
     {
-        self.room = false;
+        self.has_space = false;
         self.off = None;
-        if self.taken < self.aims.len() {
+        if self.taken < self.lock_requests.len() {
             self.taken += 1;
         } else {
-            put(&mut self.aims, one);
-            self.taken = self.aims.len();
+            put(&mut self.lock_requests, one);
+            self.taken = self.lock_requests.len();
         }
     }
 
     // Whether the transaction has taken something that bars a wait for this: above it, or what it raises.
-    pub(crate) fn bars(&self, wished: Aim) -> bool
-        ensures barred { result ≡ is_barred wished self.now.taken }
-        ensures next { first_of self.now.left ≡ Some wished → result ≡ false }
+    pub(crate) fn bars(&self, request: LockRequest) -> bool
+        ensures barred { result ≡ is_barred request self.now.taken }
+        ensures next { first_of self.now.left ≡ Some request → result ≡ false }
     {
-        any_bars(&self.aims[..self.taken], wished)
+        any_bars(&self.lock_requests, self.taken, request)
     }
 
     // Notes what it was kept off from.
-    pub(crate) fn keep_off(&mut self, wished: Aim)
-        requires room { self.old.room ≡ true }
-        ensures { self.new ≡ with_off wished self.old }
+    pub(crate) fn keep_off(&mut self, request: LockRequest)
+        requires has_space { self.old.has_space ≡ true }
+        ensures { self.new ≡ with_off request self.old }
     {
-        self.off = Some(wished);
+        self.off = Some(request);
     }
 
     // Notes that it was kept off from nothing.
@@ -124,91 +128,89 @@ impl Known {
     pub(crate) fn give_back(&mut self)
         ensures { self.new ≡ given_back self.old }
     {
-        self.room = false;
+        self.has_space = false;
         self.taken = 0;
-        if let Some(wished) = self.off.take() {
-            put(&mut self.aims, wished);
+        if let Some(request) = self.off.take() {
+            put(&mut self.lock_requests, request);
         }
     }
 }
 
-// Whether one of these bars a wait for what is wished.
-fn any_bars(aims: &[Aim], wished: Aim) -> bool
-    ensures { result ≡ is_barred wished aims.now }
+// Whether one of the first of these bars a wait for what is asked for.
+fn any_bars(lock_requests: &VecDeque<LockRequest>, count: usize, request: LockRequest) -> bool
+    requires { count ≤ deque_len lock_requests.now }
+    ensures { result ≡ is_barred request (take count lock_requests.now.items) }
 {
-    aims.iter().any(|one| one.bars(wished))
+    lock_requests
+        .iter()
+        .take(count)
+        .any(|one| one.bars(request))
 }
 
-// Where the first aim stands whose rank isn't below this one: halved down to, as ranks rise.
-fn position_from(aims: &[Aim], rank: usize) -> Option<usize>
-    requires { Rises aims.now }
-    ensures { result ≡ position (λ other. nat_le rank (rank_of other)) aims.now }
+// Where the first lock request stands whose rank isn't below this one: halved down to, as ranks rise.
+fn position_from(lock_requests: &VecDeque<LockRequest>, rank: usize) -> Option<usize>
+    requires { Rises lock_requests.now.items }
+    ensures { result ≡ position (λ other. nat_le rank (rank_of other)) lock_requests.now.items }
 {
-    let index = aims.partition_point(|other| other.rank() < rank);
-    if index < aims.len() {
+    let index = lock_requests.partition_point(|other| other.rank() < rank);
+    if index < lock_requests.len() {
         Some(index)
     } else {
         None
     }
 }
 
-// Whether an aim stands above all of these.
-fn is_above(aims: &Vec<Aim>, one: Aim) -> bool
-    requires { Rises aims.now.items }
-    ensures { result ≡ true → inserted one aims.now.items ≡ aims.now.items ++ one ∷ [] }
+// Whether a lock request stands above all of these.
+fn is_above(lock_requests: &VecDeque<LockRequest>, one: LockRequest) -> bool
+    requires { Rises lock_requests.now.items }
+    ensures { result ≡ true → inserted one lock_requests.now.items ≡ lock_requests.now.items ++ one ∷ [] }
 {
-    if aims.len() == 0 {
+    if lock_requests.len() == 0 {
         return true;
     }
-    aims[aims.len() - 1].rank() < one.rank()
+    lock_requests[lock_requests.len() - 1].rank() < one.rank()
 }
 
-// Puts an aim behind these.
-fn push_last(aims: &mut Vec<Aim>, one: Aim)
-    requires { vec_len aims.old < vec_capacity aims.old }
-    ensures { aims.new.items ≡ aims.old.items ++ one ∷ [] }
+// Puts a lock request behind these.
+fn push_last(lock_requests: &mut VecDeque<LockRequest>, one: LockRequest)
+    requires { deque_len lock_requests.old < deque_capacity lock_requests.old }
+    ensures { lock_requests.new.items ≡ lock_requests.old.items ++ one ∷ [] }
 {
-    match aims.push(one) {
-        Ok(()) => {}
-        Err(_) => unreachable!(),
-    }
+    lock_requests.push_back_reserved(one);
 }
 
-// Puts an aim in its place: one that stands above all others without a walk past them.
-fn put(aims: &mut Vec<Aim>, one: Aim)
-    requires rise { Rises aims.old.items }
-    requires room { vec_len aims.old < vec_capacity aims.old }
-    ensures items { aims.new.items ≡ inserted one aims.old.items }
-    ensures rise { Rises aims.new.items }
+// Puts a lock request in its place: one that stands above all others without a walk past them.
+fn put(lock_requests: &mut VecDeque<LockRequest>, one: LockRequest)
+    requires rise { Rises lock_requests.old.items }
+    requires has_space { deque_len lock_requests.old < deque_capacity lock_requests.old }
+    ensures items { lock_requests.new.items ≡ inserted one lock_requests.old.items }
+    ensures rise { Rises lock_requests.new.items }
 {
-    if is_above(aims, one) {
-        push_last(aims, one);
+    if is_above(lock_requests, one) {
+        push_last(lock_requests, one);
         return;
     }
-    insert(aims, one);
+    insert(lock_requests, one);
 }
 
-// Puts an aim in its place. Where its object is there, that is raised to its mode.
-fn insert(aims: &mut Vec<Aim>, one: Aim)
-    requires rise { Rises aims.old.items }
-    requires room { vec_len aims.old < vec_capacity aims.old }
-    ensures items { aims.new.items ≡ inserted one aims.old.items }
-    ensures rise { Rises aims.new.items }
+// Puts a lock request in its place. Where its object is there, that is raised to its mode.
+fn insert(lock_requests: &mut VecDeque<LockRequest>, one: LockRequest)
+    requires rise { Rises lock_requests.old.items }
+    requires has_space { deque_len lock_requests.old < deque_capacity lock_requests.old }
+    ensures items { lock_requests.new.items ≡ inserted one lock_requests.old.items }
+    ensures rise { Rises lock_requests.new.items }
 {
-    match position_from(aims, one.rank()) {
+    match position_from(lock_requests, one.rank()) {
         Some(index) => {
-            if aims[index].rank() == one.rank() {
-                aims[index] = aims[index].raised_by(one);
+            if lock_requests[index].rank() == one.rank() {
+                lock_requests[index] = lock_requests[index].upgraded_by(one);
                 return;
             }
-            match aims.insert(index, one) {
+            match lock_requests.insert(index, one) {
                 Ok(()) => {}
                 Err(_) => unreachable!(),
             }
         }
-        None => match aims.push(one) {
-            Ok(()) => {}
-            Err(_) => unreachable!(),
-        },
+        None => lock_requests.push_back_reserved(one),
     }
 }

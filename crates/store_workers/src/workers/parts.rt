@@ -2,7 +2,7 @@
 ghost use Rattle.std.specs.Prelude.{◌≡◌, None, [], option_to_list};
 ghost use Rattle.store_images.specs.Counts.{SameFrame};
 ghost use Rattle.store_workers.specs.Ended.{GivesFetchBack, GivesTransactionBack};
-ghost use Rattle.store_images.specs.Fetches.{FetchesOnly, KeepsFetches};
+ghost use Rattle.store_images.specs.Fetches.{FetchesOnly, PreservesFetches};
 
 use super::asked::Asked;
 use super::known::Known;
@@ -128,7 +128,7 @@ fn give_up(io: Option<FetchIo>, core: &mut Core<Done>)
 fn leave(tx: Option<Tx>, core: &mut Core<Done>)
     ensures frame { SameFrame core.old core.new }
     ensures ended { core.old.out ≡ option_to_list tx → core.new.out ≡ [] }
-    ensures fetches { KeepsFetches core.old core.new }
+    ensures fetches { PreservesFetches core.old core.new }
     ensures none { tx ≡ None → core.new ≡ core.old }
     ensures leaves { GivesTransactionBack tx core.old core.new }
 {

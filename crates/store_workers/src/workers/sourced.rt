@@ -21,17 +21,18 @@ impl Worker {
             (λ made. HasReadFrom (S.calls source.old) self.old.state made (S.calls source.new)
             self.new.state) }
     {
-        if self.state.phase != Phase::Reading {
+        if self.state.state.phase != Phase::Reading {
             return None;
         }
-        Some(self.state.read_from(source))
+        self.state.plan = None;
+        Some(self.state.state.read_from(source))
     }
 
     /// The place that its committed procedure waits for, if it does: the answer comes once that is settled.
     pub fn waits_for(&self) -> Option<Seq>
         ensures { result ≡ place_awaited self.now.state.phase }
     {
-        match self.state.phase {
+        match self.state.state.phase {
             Phase::Waiting(place) => Some(place),
             _ => None,
         }

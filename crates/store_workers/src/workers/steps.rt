@@ -3,59 +3,62 @@ ghost use Rattle.std.specs.Prelude.{◌≡◌, ◌<◌, ℕ, Some, None, true, i
 ghost use Rattle.store_promise.specs.Verdicts.{cause_of, refusal};
 
 use super::asked::Asked;
-use super::note::Note;
 use super::parts::{Job, Phase, State};
+use super::trace::Trace;
 use crate::options::put;
 use disk::CrashDisk;
 use layout::{FormatVersion, Geometry};
 use nfs_types::{Call, Ctx, Reply, Status};
-use procs::{Done, Planner, begins_transaction, reading_mode, refused_reply};
+use procs::{Done, Plan, Planner, begins_transaction, reading_mode, refused_reply};
 use std::alloc::Global;
 use store_promise::{CallAnswer, Cause, Ending, Step, Verdict};
 use txn::{BeginFault, Core, Seq, Tx};
 
 impl State {
-    ghost use Rattle.txn.specs.CoreWindow.{KeepsHome, KeepsReads};
+    ghost use Rattle.txn.specs.CoreWindow.{PreservesHome, PreservesReads};
     ghost use Rattle.store_workers.specs.declared.workers.parts.Phase.TheVariants.{Idle, Called, Reading};
     ghost use Rattle.store_workers.specs.declared.workers.parts.Phase.TheVariants.{Read, Refused, Again};
     ghost use Rattle.store_workers.specs.declared.workers.parts.Phase.TheVariants.{Waiting};
     ghost use Rattle.store_images.specs.Counts.{SameFrame};
-    ghost use Rattle.store_workers.specs.Notes.{IsNoted};
-    ghost use Rattle.store_workers.specs.Vouched.{IsVouched};
+    ghost use Rattle.store_workers.specs.Traces.{IsTraced};
+    ghost use Rattle.store_workers.specs.Witnessed.{IsWitnessed};
+    ghost use Rattle.store_workers.specs.Prepared.{IsPrepared};
     ghost use Rattle.store_workers.specs.Stages.{HasSoundJob};
     ghost use Rattle.store_workers.specs.Worker.{IsSound, with_call};
     ghost use Rattle.store_workers.specs.WorkerAnswers.{with_answer};
     ghost use Rattle.store_workers.specs.WorkerReads.{HasReadBlock};
     ghost use Rattle.store_workers.specs.WorkerSteps.{Begins, BeginsAgain, GivesBack, GoesOn};
-    ghost use Rattle.store_workers.specs.WorkerSteps.{HasToldBroken, HasToldReply};
-    ghost use Rattle.store_workers.specs.WorkerSteps.{KeepsHomeOf, KeepsReadsOf, Refuses, Waits, side};
+    ghost use Rattle.store_workers.specs.WorkerSteps.{HasSentBroken, HasSentReply};
+    ghost use Rattle.store_workers.specs.WorkerSteps.{PreservesHomeOf, PreservesReadsOf, Refuses, Waits, worker_and_core};
 
     // The piece of the bitmap from which free blocks are looked for: that of the block which the last call claimed last.
-    pub(super) fn room(&self) -> u32 {
-        room_of(&self.work.planner, &self.asked)
+    pub(super) fn alloc_cursor(&self) -> u32 {
+        alloc_cursor_of(&self.work.planner, &self.asked)
     }
 
-    // Makes the next step, with a note of it where one is wanted.
+    // Makes the next step, with a note of it where one is wanted, by the plan that was made for it, if one was.
     pub(super) fn step(
         &mut self,
         alloc: Global,
         core: &mut Core<Done>,
-        note: &mut Note,
+        trace: &mut Trace,
+        plan: Option<Plan>,
     ) -> Option<Step>
         requires sound { IsSound self.old }
         requires asked { ∥ HasSoundJob self.old ∥₁ }
+        requires prepared { IfSome plan (λ plan. IsPrepared self.old plan) }
         ensures sound { IsSound self.new }
         ensures frame { SameFrame core.old core.new }
-        ensures step { GoesOn self.old.phase (side self.old core.old) result (side self.new core.new) }
-        ensures note { IsNoted result self.new note.old note.new }
-        ensures vouched { IsVouched result self.new note.old note.new }
-        ensures home { KeepsHomeOf (side self.old core.old) (side self.new core.new) }
-        ensures stays { KeepsReadsOf (side self.old core.old) (side self.new core.new) }
+        ensures step { GoesOn self.old.phase (worker_and_core self.old core.old) result (worker_and_core self.new core.new) }
+        ensures trace { IsTraced result self.new trace.old trace.new }
+        ensures witnessed { IsWitnessed result self.new trace.old trace.new }
+        ensures home { PreservesHomeOf (worker_and_core self.old core.old) (worker_and_core self.new core.new) }
+        ensures stays { PreservesReadsOf (worker_and_core self.old core.old) (worker_and_core self.new core.new) }
     {
         match self.phase {
             Phase::Idle | Phase::Reading => None,
             Phase::Called => Some(self.begin(alloc, core)),
-            Phase::Planning => Some(self.go_within(alloc, core, note)),
+            Phase::Planning => Some(self.go_within(alloc, core, trace, plan)),
             Phase::Read(ok) => Some(self.give_back(core, ok)),
             Phase::Refused(why) => Some(self.refuse(core, why)),
             Phase::Again => Some(self.begin_again(core)),
@@ -95,9 +98,9 @@ impl State {
         requires phase { self.old.phase ≡ Called }
         ensures sound { IsSound self.new }
         ensures frame { SameFrame core.old core.new }
-        ensures step { Begins (side self.old core.old) result (side self.new core.new) }
-        ensures home { KeepsHome core.old core.new }
-        ensures stays { (tx : ℕ) → KeepsReads core.old core.new tx }
+        ensures step { Begins (worker_and_core self.old core.old) result (worker_and_core self.new core.new) }
+        ensures home { PreservesHome core.old core.new }
+        ensures stays { (tx : ℕ) → PreservesReads core.old core.new tx }
     {
         let Some(job) = self.work.job.as_mut() else {
             unreachable!();
@@ -106,7 +109,7 @@ impl State {
             self.give(Verdict::Reply(Reply::Null), None);
             return Step::Replied;
         }
-        let from = room_of(&self.work.planner, &self.asked);
+        let from = alloc_cursor_of(&self.work.planner, &self.asked);
         let asks = reading_mode(&job.call);
         match core.begin() {
             Ok(tx) => {
@@ -126,8 +129,8 @@ impl State {
                 Step::Begun(Ok(number))
             }
             Err(fault) => {
-                let told = verdict(&job.call, cause_of(fault));
-                self.give(told, None);
+                let given_verdict = verdict(&job.call, cause_of(fault));
+                self.give(given_verdict, None);
                 Step::Begun(Err(fault))
             }
         }
@@ -139,9 +142,9 @@ impl State {
         requires phase { self.old.phase ≡ Read ok }
         ensures sound { IsSound self.new }
         ensures frame { SameFrame core.old core.new }
-        ensures step { GivesBack ok (side self.old core.old) result (side self.new core.new) }
-        ensures home { KeepsHomeOf (side self.old core.old) (side self.new core.new) }
-        ensures stays { (tx : ℕ) → KeepsReads core.old core.new tx }
+        ensures step { GivesBack ok (worker_and_core self.old core.old) result (worker_and_core self.new core.new) }
+        ensures home { PreservesHomeOf (worker_and_core self.old core.old) (worker_and_core self.new core.new) }
+        ensures stays { (tx : ℕ) → PreservesReads core.old core.new tx }
     {
         let io = self.begun.take_fetch();
         let block = io.block();
@@ -162,17 +165,17 @@ impl State {
         requires phase { self.old.phase ≡ Refused why }
         ensures sound { IsSound self.new }
         ensures frame { SameFrame core.old core.new }
-        ensures step { Refuses why (side self.old core.old) result (side self.new core.new) }
-        ensures home { KeepsHome core.old core.new }
-        ensures stays { KeepsReadsOf (side self.old core.old) (side self.new core.new) }
+        ensures step { Refuses why (worker_and_core self.old core.old) result (worker_and_core self.new core.new) }
+        ensures home { PreservesHome core.old core.new }
+        ensures stays { PreservesReadsOf (worker_and_core self.old core.old) (worker_and_core self.new core.new) }
     {
         let tx = self.begun.take_tx();
         core.abort(tx);
         let Some(job) = self.work.job.as_ref() else {
             unreachable!();
         };
-        let told = verdict(&job.call, why);
-        self.give(told, None);
+        let given_verdict = verdict(&job.call, why);
+        self.give(given_verdict, None);
         Step::Ended(Ending::Refused)
     }
 
@@ -182,9 +185,9 @@ impl State {
         requires phase { self.old.phase ≡ Again }
         ensures sound { IsSound self.new }
         ensures frame { SameFrame core.old core.new }
-        ensures step { BeginsAgain (side self.old core.old) result (side self.new core.new) }
-        ensures home { KeepsHome core.old core.new }
-        ensures stays { KeepsReadsOf (side self.old core.old) (side self.new core.new) }
+        ensures step { BeginsAgain (worker_and_core self.old core.old) result (worker_and_core self.new core.new) }
+        ensures home { PreservesHome core.old core.new }
+        ensures stays { PreservesReadsOf (worker_and_core self.old core.old) (worker_and_core self.new core.new) }
     {
         let tx = self.begun.take_tx();
         core.abort(tx);
@@ -197,7 +200,7 @@ impl State {
         requires sound { IsSound self.old }
         requires phase { self.old.phase ≡ Waiting place }
         ensures sound { IsSound self.new }
-        ensures step { Waits place (side self.old core.now) result (side self.new core.now) }
+        ensures step { Waits place (worker_and_core self.old core.now) result (worker_and_core self.new core.now) }
     {
         let settled = core.stable(place).is_some();
         if settled {
@@ -211,7 +214,7 @@ impl State {
     // Answers the reply of the procedure.
     fn tell_reply(&mut self, place: Seq)
         requires { is_some self.old.work.reply ≡ true }
-        ensures { HasToldReply place self.old self.new }
+        ensures { HasSentReply place self.old self.new }
     {
         match self.work.reply.take() {
             Some(reply) => self.give(Verdict::Reply(reply), Some(place)),
@@ -222,7 +225,7 @@ impl State {
     // Answers the one in its place.
     fn tell_broken(&mut self, place: Seq)
         requires { is_some self.old.work.broken_reply ≡ true }
-        ensures { HasToldBroken place self.old self.new }
+        ensures { HasSentBroken place self.old self.new }
     {
         match self.work.broken_reply.take() {
             Some(reply) => self.give(Verdict::Reply(reply), Some(place)),
@@ -252,10 +255,10 @@ impl State {
 }
 
 // The piece of the bitmap in which the last call's planner looked for free blocks last, or that of the worker's beginning.
-fn room_of(last: &Option<Planner>, asked: &Asked) -> u32 {
+fn alloc_cursor_of(last: &Option<Planner>, asked: &Asked) -> u32 {
     match last {
-        Some(planner) => planner.room(),
-        None => asked.room(),
+        Some(planner) => planner.alloc_cursor(),
+        None => asked.alloc_cursor(),
     }
 }
 

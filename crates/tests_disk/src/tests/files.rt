@@ -19,7 +19,7 @@ fn make_file(rt: &HostRuntime, path: &str) -> Result<bool, Fail> {
 }
 
 #[test]
-fn a_file_keeps_what_was_written(rt: HostRuntime) -> Result<(), Fail> {
+fn a_file_preserves_what_was_written(rt: HostRuntime) -> Result<(), Fail> {
     let path = "kept.tmp";
     assert!(rt; make_file(&rt, path)?);
     let mut out = Block::zeros(rt.alloc())?;

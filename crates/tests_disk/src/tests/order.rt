@@ -9,7 +9,7 @@ use std::test::Fail;
 
 // What is done with a file.
 #[derive(Clone, Copy)]
-enum Deed {
+enum TestStep {
     Open,
     Create,
 }
@@ -17,7 +17,7 @@ enum Deed {
 // Does it, and gives the calls that were made, and whether it went well.
 fn done(
     alloc: Global,
-    deed: Deed,
+    test_step: TestStep,
     has_image: bool,
     failing: usize,
 ) -> Result<(Vec<Step>, bool), Fail> {
@@ -26,9 +26,9 @@ fn done(
         steps: &steps,
         has_image,
     };
-    let disk = match deed {
-        Deed::Open => FileDisk::open(&files, "images/a.img"),
-        Deed::Create => FileDisk::create(&files, "images/a.img", 3),
+    let disk = match test_step {
+        TestStep::Open => FileDisk::open(&files, "images/a.img"),
+        TestStep::Create => FileDisk::create(&files, "images/a.img", 3),
     };
     let is_done = disk.is_ok_and(|disk| disk.blocks() > 0);
     let made = steps.made.into_inner();
@@ -38,14 +38,14 @@ fn done(
 // The calls come in this order where all go well, and where one fails it is the last and there is no device.
 fn assert_order(
     rt: &(impl Abort + AllocGlobal),
-    deed: Deed,
+    test_step: TestStep,
     has_image: bool,
     wanted: &[Step],
 ) -> Result<(), Fail> {
-    let (made, is_done) = done(rt.alloc(), deed, has_image, usize::MAX)?;
+    let (made, is_done) = done(rt.alloc(), test_step, has_image, usize::MAX)?;
     assert!(rt; made.as_slice() == wanted && is_done, "{made:?}");
     for failing in 0..wanted.len() {
-        let (made, is_done) = done(rt.alloc(), deed, has_image, failing)?;
+        let (made, is_done) = done(rt.alloc(), test_step, has_image, failing)?;
         assert!(rt;
             made.as_slice() == &wanted[..failing + 1] && !is_done,
             "{made:?}"
@@ -55,22 +55,22 @@ fn assert_order(
 }
 
 // What is done, whether the image is there, and the calls in their order.
-const ROWS: [(Deed, bool, &[Step]); 3] = [
+const ROWS: [(TestStep, bool, &[Step]); 3] = [
     // a lock comes before the length is asked
     (
-        Deed::Open,
+        TestStep::Open,
         true,
         &[Step::Open, Step::Lock, Step::Sync, Step::AskLength],
     ),
     // a lock comes before the length is set
     (
-        Deed::Create,
+        TestStep::Create,
         true,
         &[Step::Open, Step::Lock, Step::Length(12288), Step::Sync],
     ),
     // the folder of a new file is settled
     (
-        Deed::Create,
+        TestStep::Create,
         false,
         &[
             Step::Open,
@@ -86,8 +86,8 @@ const ROWS: [(Deed, bool, &[Step]); 3] = [
 
 #[test]
 fn what_a_file_system_is_asked(rt: HostRuntime) -> Result<(), Fail> {
-    for (deed, has_image, wanted) in &ROWS {
-        assert_order(&rt, *deed, *has_image, wanted)?;
+    for (test_step, has_image, wanted) in &ROWS {
+        assert_order(&rt, *test_step, *has_image, wanted)?;
     }
     Ok(())
 }

@@ -181,7 +181,7 @@ fn what_the_parts_ask(rt: HostRuntime) -> Result<(), Fail> {
 }
 
 // Whether a second opening of this file is taken for one of the first.
-fn is_taken_beside(rt: &HostRuntime, one: &str, other: &str) -> io::Result<bool> {
+fn is_taken_for_same(rt: &HostRuntime, one: &str, other: &str) -> io::Result<bool> {
     let mut options = OpenOptions::new();
     options.read(true).write(true);
     let first = options.open(rt, one)?;
@@ -194,7 +194,7 @@ fn another_file_is_no_second_opening(rt: HostRuntime) -> Result<(), Fail> {
     let (one, other) = ("beside.tmp", "other.tmp");
     drop(FileDisk::create(&rt, one, 3)?);
     drop(FileDisk::create(&rt, other, 3)?);
-    assert!(rt; is_taken_beside(&rt, one, one)? && !is_taken_beside(&rt, one, other)?);
+    assert!(rt; is_taken_for_same(&rt, one, one)? && !is_taken_for_same(&rt, one, other)?);
     std::fs::remove_file(&rt, one)?;
     std::fs::remove_file(&rt, other)?;
     Ok(())

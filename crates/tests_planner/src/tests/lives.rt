@@ -4,7 +4,7 @@ ghost use Rattle.std.specs.Prelude.{◌≡◌, All, OnOk};
 ghost use Rattle.nfs_spec.specs.Model.Sound.{SoundTime};
 ghost use Rattle.store_images.specs.Replays.Replayed.{CanBeReplayed};
 
-use crate::tests::beside::plans_alike;
+use crate::tests::restarts::plans_alike;
 use base::{FIRST_HOME_BLOCK, LEAST_BLOCKS};
 use disk::{Block, BlockNo, CrashDisk, MemDisk};
 use layout::{FormatVersion, Geometry, PIECE_BYTES, PIECES_PER_BLOCK};
@@ -164,6 +164,20 @@ const NAMES: &[Row] = &[
     Row::Asks(Asked::Remove(DIRECTORY, b"m3")),
     Row::Asks(Asked::RmDir(ROOT, b"d")),
     Row::Asks(Asked::ReadDirPlus(DIRECTORY, 0, ZEROS, 32_768, 32_768)),
+];
+
+// A directory that goes into one four levels deep, from there to one level less and back to the root; and one that
+// can't go below itself.
+const LEVELS: &[Row] = &[
+    Row::Asks(Asked::MkDir(ROOT, b"a", UNSET)),
+    Row::Asks(Asked::MkDir(File(2, 1, 1), b"b", UNSET)),
+    Row::Asks(Asked::MkDir(File(3, 1, 2), b"c", UNSET)),
+    Row::Asks(Asked::MkDir(File(4, 1, 3), b"d", UNSET)),
+    Row::Asks(Asked::MkDir(ROOT, b"m", UNSET)),
+    Row::Asks(Asked::Rename(ROOT, b"m", File(5, 1, 4), b"n")),
+    Row::Asks(Asked::Rename(File(2, 1, 1), b"b", File(6, 1, 5), b"b")),
+    Row::Asks(Asked::Rename(File(5, 1, 4), b"n", File(4, 1, 3), b"n")),
+    Row::Asks(Asked::Rename(File(4, 1, 3), b"n", ROOT, b"m")),
 ];
 
 // An image of so many blocks.
@@ -408,5 +422,11 @@ fn on_bytes(rt: HostRuntime) -> Result<(), Fail> {
 #[test]
 fn on_names(rt: HostRuntime) -> Result<(), Fail> {
     assert_eq!(rt; first_unlike(rt.alloc(), LEAST_BLOCKS, NAMES)?, None);
+    Ok(())
+}
+
+#[test]
+fn on_levels(rt: HostRuntime) -> Result<(), Fail> {
+    assert_eq!(rt; first_unlike(rt.alloc(), LEAST_BLOCKS, LEVELS)?, None);
     Ok(())
 }

@@ -1,7 +1,7 @@
 //! What each test drives: a core of toy changes over the log of a device in memory.
 ghost use Rattle.std.specs.Prelude.{◌≡◌, ◌<◌, [], ◌∷◌, IfSome};
 
-use crate::tests::toys::{At, BLOCKS, INODES, Toy};
+use crate::tests::fake_changes::{At, BLOCKS, INODES, Toy};
 use circ::Recovered;
 use disk::{BlockNo, CrashDisk, MemDisk};
 use objects::{Addr, Mode};
@@ -153,9 +153,9 @@ impl<D: CrashDisk> Bench<D> {
     fn take_all(&mut self, tx: Tx, steps: &[Step], wanted: &[Seen]) -> (Tx, bool) {
         let mut tx = tx;
         let mut are_seen = true;
-        'steps: for (place, step) in steps.iter().enumerate() {
+        'steps: for (step_index, step) in steps.iter().enumerate() {
             let (back, seen) = self.take(tx, *step);
-            are_seen = are_seen && is_wanted(wanted, place, seen);
+            are_seen = are_seen && is_wanted(wanted, step_index, seen);
             tx = back;
         }
         (tx, are_seen)
@@ -307,8 +307,8 @@ impl<D: CrashDisk> Bench<D> {
 }
 
 // Whether this was wanted at a place, or nothing.
-fn is_wanted(wanted: &[Seen], place: usize, seen: Seen) -> bool {
-    match wanted.get(place) {
+fn is_wanted(wanted: &[Seen], step_index: usize, seen: Seen) -> bool {
+    match wanted.get(step_index) {
         Some(one) => *one == seen,
         None => true,
     }

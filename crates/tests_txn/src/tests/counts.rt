@@ -3,7 +3,7 @@
 
 use crate::tests::bench::{Bench, Seen, Step};
 use crate::tests::change;
-use crate::tests::toys::{At, home};
+use crate::tests::fake_changes::{At, home};
 use base::INDIRECT_INDEXES;
 use std::test::Fail;
 

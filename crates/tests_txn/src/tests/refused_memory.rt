@@ -1,7 +1,7 @@
 //! Where memory is refused once, nothing has changed, and the same call does it then.
 
 use crate::tests::bench::{Bench, Ended, Seen, Step};
-use crate::tests::toys::{At, change_of};
+use crate::tests::fake_changes::{At, change_of};
 use std::test::Fail;
 use wal::Seq;
 

@@ -2,7 +2,7 @@
 
 use crate::tests::bench::{Bench, Ended, Seen, Step};
 use crate::tests::change;
-use crate::tests::toys::{At, BLOCKS, change_of, home};
+use crate::tests::fake_changes::{At, BLOCKS, change_of, home};
 use crate::tests::whole::claim_and_write_many;
 use base::FIRST_HOME_BLOCK;
 use disk::CrashDisk;
@@ -40,14 +40,14 @@ fn one_block<D: CrashDisk>(
     let (three, loads_too) = bench.take(three, Step::Want(AT_16));
     let was_out = bench.give_back(io);
     let (one, reads) = bench.take(one, Step::Read(AT_0));
-    let (two, reads_beside) = bench.take(two, Step::Want(AT_8));
+    let (two, reads_shared) = bench.take(two, Step::Want(AT_8));
     let (three, busy_still) = bench.take(three, Step::Want(AT_0));
     let (three, reads_too) = bench.take(three, Step::Want(AT_16));
     let one = bench.end(one, first);
     let two = bench.end(two, second);
     let three = bench.end(three, third);
     let fetching = [loads, busy, loads_too];
-    let behind = [reads, reads_beside, busy_still, reads_too];
+    let behind = [reads, reads_shared, busy_still, reads_too];
     if was_out {
         Ok(Some((fetching, behind, [one, two, three])))
     } else {
@@ -84,24 +84,24 @@ fn one_object<D: CrashDisk>(
     bench: &mut Bench<D>,
 ) -> Result<Option<([Seen; 5], [Seen; 4], [Ended; 2])>, Fail> {
     let shared = change_of(bench.alloc, &[(AT_0, 0)], &[(AT_0, 5)])?;
-    let alone = change_of(bench.alloc, &[(AT_0, 0)], &[(AT_0, 7)])?;
+    let exclusives = change_of(bench.alloc, &[(AT_0, 0)], &[(AT_0, 7)])?;
     let Some((one, two, three)) = bench.begin_three() else {
         return Ok(None);
     };
     let (one, shares) = bench.take(one, Step::Share(AT_0));
     let (two, shares_too) = bench.take(two, Step::Share(AT_0));
     let (three, busy) = bench.take(three, Step::Want(AT_0));
-    let (one, raises) = bench.take(one, Step::Want(AT_0));
+    let (one, upgrades) = bench.take(one, Step::Want(AT_0));
     let (two, raises_too) = bench.take(two, Step::Want(AT_0));
     let one = bench.end(one, shared);
     let (three, waits) = bench.take(three, Step::Want(AT_0));
-    let (two, raised) = bench.take(two, Step::Want(AT_0));
+    let (two, upgraded) = bench.take(two, Step::Want(AT_0));
     let (three, waits_still) = bench.take(three, Step::Share(AT_0));
-    let two = bench.end(two, alone);
+    let two = bench.end(two, exclusives);
     let (three, reads) = bench.take(three, Step::Want(AT_0));
     bench.core.abort(three);
-    let both = [shares, shares_too, busy, raises, raises_too];
-    Ok(Some((both, [waits, raised, waits_still, reads], [one, two])))
+    let both = [shares, shares_too, busy, upgrades, raises_too];
+    Ok(Some((both, [waits, upgraded, waits_still, reads], [one, two])))
 }
 
 #[test]

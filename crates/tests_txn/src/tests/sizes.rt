@@ -2,7 +2,7 @@
 //! memory that nobody needs as the limit says, and fewer than twice as many.
 
 use crate::tests::bench::{Bench, Ended, Seen, Step};
-use crate::tests::toys::{At, change_of};
+use crate::tests::fake_changes::{At, change_of};
 use crate::tests::whole::{claims, writes};
 use base::CLEAN_BLOCKS;
 use std::alloc::{AllocError, Global};

@@ -1,7 +1,7 @@
 //! Changes that write many blocks whole, which were claimed for them.
 
 use crate::tests::bench::{Bench, Ended, Step};
-use crate::tests::toys::{At, Toy, change_of, home};
+use crate::tests::fake_changes::{At, Toy, change_of, home};
 use disk::CrashDisk;
 use std::alloc::{AllocError, Global};
 use std::test::Fail;
@@ -17,11 +17,11 @@ pub fn claims(alloc: Global, first: u32, count: u8) -> Result<Vec<Step>, AllocEr
 
 // A change that writes so many whole blocks, from a home block on.
 pub fn writes(alloc: Global, first: u32, count: u8) -> Result<Toy, Fail> {
-    let mut told = Vec::new(alloc);
+    let mut test_bytes = Vec::new(alloc);
     for index in 0..u32::from(count) {
-        told.push((At::Whole(first.saturating_add(index)), 3))?;
+        test_bytes.push((At::Whole(first.saturating_add(index)), 3))?;
     }
-    change_of(alloc, &[], told.as_slice())
+    change_of(alloc, &[], test_bytes.as_slice())
 }
 
 // What such a change of blocks that it has claimed comes to.

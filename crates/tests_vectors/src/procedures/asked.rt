@@ -63,7 +63,7 @@ pub fn handle_of(alloc: Global, file: File) -> Result<Handle, AllocError> {
     Handle::of(alloc, file.0, stamp)
 }
 
-fn place(alloc: Global, directory: File, name: &[u8]) -> Result<DirectoryName, AllocError> {
+fn dentry(alloc: Global, directory: File, name: &[u8]) -> Result<DirectoryName, AllocError> {
     Ok(DirectoryName {
         directory: handle_of(alloc, directory)?,
         name: Octets::copied(alloc, name)?,
@@ -107,7 +107,7 @@ fn make_link(
     target: &[u8],
 ) -> Result<Call, AllocError> {
     Ok(Call::SymLink {
-        name: place(alloc, directory, name)?,
+        name: dentry(alloc, directory, name)?,
         attributes,
         target: Octets::copied(alloc, target)?,
     })
@@ -121,15 +121,15 @@ fn rename(
     new_name: &[u8],
 ) -> Result<Call, AllocError> {
     Ok(Call::Rename {
-        source: place(alloc, from, name)?,
-        target: place(alloc, to, new_name)?,
+        source: dentry(alloc, from, name)?,
+        target: dentry(alloc, to, new_name)?,
     })
 }
 
 fn link(alloc: Global, file: File, directory: File, name: &[u8]) -> Result<Call, AllocError> {
     Ok(Call::Link {
         file: handle_of(alloc, file)?,
-        name: place(alloc, directory, name)?,
+        name: dentry(alloc, directory, name)?,
     })
 }
 
@@ -137,27 +137,27 @@ fn link(alloc: Global, file: File, directory: File, name: &[u8]) -> Result<Call,
 fn call_by_name(alloc: Global, asked: &Asked) -> Result<Option<Call>, AllocError> {
     match *asked {
         Asked::Lookup(at, name) => {
-            let name = place(alloc, at, name)?;
+            let name = dentry(alloc, at, name)?;
             Ok(Some(Call::Lookup { name }))
         }
         Asked::Create(at, name, how) => {
-            let name = place(alloc, at, name)?;
+            let name = dentry(alloc, at, name)?;
             Ok(Some(Call::Create { name, how }))
         }
         Asked::MkDir(at, name, attributes) => {
-            let name = place(alloc, at, name)?;
+            let name = dentry(alloc, at, name)?;
             Ok(Some(Call::MkDir { name, attributes }))
         }
         Asked::MkNod(at, name, special) => {
-            let name = place(alloc, at, name)?;
+            let name = dentry(alloc, at, name)?;
             Ok(Some(Call::MkNod { name, special }))
         }
         Asked::Remove(at, name) => {
-            let name = place(alloc, at, name)?;
+            let name = dentry(alloc, at, name)?;
             Ok(Some(Call::Remove { name }))
         }
         Asked::RmDir(at, name) => {
-            let name = place(alloc, at, name)?;
+            let name = dentry(alloc, at, name)?;
             Ok(Some(Call::RmDir { name }))
         }
         Asked::SymLink(at, name, attributes, target) => {

@@ -40,7 +40,7 @@ pub const OK: [u32; 1] = [0];
 /// What is told of a regular file (`fattr3`): its kind and mode, 2 links, owner 1000, group 100; a size of 5
 /// bytes of which 4,096 are used; a device of the numbers 11 and 12; file 9 of file system 7; and the three
 /// times.
-pub const TOLD: [u32; 21] = [
+pub const ATTRIBUTES: [u32; 21] = [
     1, 420, 2, 1000, 100, 0, 5, 0, 4096, 11, 12, 0, 7, 0, 9, 100, 1, 200, 2, 300, 3,
 ];
 

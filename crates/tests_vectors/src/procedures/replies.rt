@@ -3,8 +3,8 @@
 use crate::procedures::asked::handle_of;
 use crate::procedures::values::{ATTRIBUTES, BEFORE, FILE, VERIFIER};
 use nfs_types::{
-    Created, FileSystemInfo, FileSystemSpace, Listed, ListedEntries, ListedEntriesPlus,
-    ListedEntry, ListedEntryPlus, ListedPlus, Looked, Moment, MountProcedure, MountReply, Mounted,
+    Created, FileSystemInfo, FileSystemSpace, Listed, ListedEntries, ListedEntriesPlus, ListedItem,
+    ListedItemPlus, ListedPlus, LookupResult, Moment, MountProcedure, MountReply, Mounted,
     NumberList, Octets, PathLimits, Pieces, Procedure, ReadBytes, Reply, Stability, Status,
     WeakCacheData, Written,
 };
@@ -74,12 +74,12 @@ const LIMITS: PathLimits = PathLimits {
 
 fn entries(alloc: Global) -> Result<ListedEntries, AllocError> {
     let mut entries = Vec::new(alloc);
-    entries.push(ListedEntry {
+    entries.push(ListedItem {
         number: 9,
         name: Octets::copied(alloc, b"file")?,
         cookie: 4,
     })?;
-    entries.push(ListedEntry {
+    entries.push(ListedItem {
         number: 10,
         name: Octets::copied(alloc, b"new")?,
         cookie: 5,
@@ -87,9 +87,9 @@ fn entries(alloc: Global) -> Result<ListedEntries, AllocError> {
     Ok(ListedEntries::new(entries))
 }
 
-fn full_entry(alloc: Global) -> Result<ListedEntryPlus, AllocError> {
+fn full_entry(alloc: Global) -> Result<ListedItemPlus, AllocError> {
     let handle = handle_of(alloc, FILE)?;
-    Ok(ListedEntryPlus {
+    Ok(ListedItemPlus {
         number: 9,
         name: Octets::copied(alloc, b"file")?,
         cookie: 4,
@@ -98,8 +98,8 @@ fn full_entry(alloc: Global) -> Result<ListedEntryPlus, AllocError> {
     })
 }
 
-fn bare_entry(alloc: Global) -> Result<ListedEntryPlus, AllocError> {
-    Ok(ListedEntryPlus {
+fn bare_entry(alloc: Global) -> Result<ListedItemPlus, AllocError> {
+    Ok(ListedItemPlus {
         number: 10,
         name: Octets::copied(alloc, b"new")?,
         cookie: 5,
@@ -123,12 +123,12 @@ fn flavors(alloc: Global) -> Result<NumberList, AllocError> {
 }
 
 fn lookup(alloc: Global) -> Result<Reply, AllocError> {
-    let looked = Looked {
+    let lookup_result = LookupResult {
         object: handle_of(alloc, FILE)?,
         attributes: Some(ATTRIBUTES),
     };
     Ok(Reply::Lookup {
-        outcome: Ok(looked),
+        outcome: Ok(lookup_result),
         directory: None,
     })
 }

@@ -2,47 +2,65 @@
 //! and UMNT's have none.
 
 use crate::procedures::parts::{
-    DATA, ENTRY, HANDLE, INFO, NEW_ENTRY, NONE, OK, SOME, SPACE, TARGET, TOLD, VERIFIER, WAS,
+    ATTRIBUTES, DATA, ENTRY, HANDLE, INFO, NEW_ENTRY, NONE, OK, SOME, SPACE, TARGET, VERIFIER, WAS,
 };
 use nfs_types::{MountProcedure, Procedure};
 
 /// Those of NFS.
 pub const RESULTS: [(Procedure, &[&[u32]]); 22] = [
     (Procedure::Null, &[]),
-    (Procedure::GetAttr, &[&OK, &TOLD]),
+    (Procedure::GetAttr, &[&OK, &ATTRIBUTES]),
     // NOT_SYNC, and the file before it
     (Procedure::SetAttr, &[&[10_002], &WAS, &NONE]),
     // the file with its attributes, and nothing of the directory
-    (Procedure::Lookup, &[&OK, &HANDLE, &SOME, &TOLD, &NONE]),
+    (
+        Procedure::Lookup,
+        &[&OK, &HANDLE, &SOME, &ATTRIBUTES, &NONE],
+    ),
     // five of the six bits
-    (Procedure::Access, &[&OK, &SOME, &TOLD, &[31]]),
+    (Procedure::Access, &[&OK, &SOME, &ATTRIBUTES, &[31]]),
     (Procedure::ReadLink, &[&OK, &NONE, &TARGET]),
     // five bytes, and the file's end behind them
     (Procedure::Read, &[&OK, &NONE, &[5, 1], &DATA]),
     // five bytes, whose data are kept (DATA_SYNC)
     (
         Procedure::Write,
-        &[&OK, &WAS, &SOME, &TOLD, &[5, 1], &VERIFIER],
+        &[&OK, &WAS, &SOME, &ATTRIBUTES, &[5, 1], &VERIFIER],
     ),
     // the file with its attributes, and the directory behind the change
     (
         Procedure::Create,
-        &[&OK, &SOME, &HANDLE, &SOME, &TOLD, &NONE, &SOME, &TOLD],
+        &[
+            &OK,
+            &SOME,
+            &HANDLE,
+            &SOME,
+            &ATTRIBUTES,
+            &NONE,
+            &SOME,
+            &ATTRIBUTES,
+        ],
     ),
     // EXIST, and nothing of the directory
     (Procedure::MkDir, &[&[17], &NONE, &NONE]),
     // nothing of the link, and the directory before and behind the change
-    (Procedure::SymLink, &[&OK, &NONE, &NONE, &WAS, &SOME, &TOLD]),
+    (
+        Procedure::SymLink,
+        &[&OK, &NONE, &NONE, &WAS, &SOME, &ATTRIBUTES],
+    ),
     // NOTSUPP, and nothing of the directory
     (Procedure::MkNod, &[&[10_004], &NONE, &NONE]),
     // the directory before and behind the change
-    (Procedure::Remove, &[&OK, &WAS, &SOME, &TOLD]),
+    (Procedure::Remove, &[&OK, &WAS, &SOME, &ATTRIBUTES]),
     // NOTEMPTY, and the directory before it
     (Procedure::RmDir, &[&[66], &WAS, &NONE]),
     // the first directory before the change, the second behind it
-    (Procedure::Rename, &[&OK, &WAS, &NONE, &NONE, &SOME, &TOLD]),
+    (
+        Procedure::Rename,
+        &[&OK, &WAS, &NONE, &NONE, &SOME, &ATTRIBUTES],
+    ),
     // MLINK, the file's attributes, and nothing of the directory
-    (Procedure::Link, &[&[31], &SOME, &TOLD, &NONE, &NONE]),
+    (Procedure::Link, &[&[31], &SOME, &ATTRIBUTES, &NONE, &NONE]),
     // both entries, and the end
     (
         Procedure::ReadDir,
@@ -54,11 +72,11 @@ pub const RESULTS: [(Procedure, &[&[u32]]); 22] = [
         &[
             &OK,
             &SOME,
-            &TOLD,
+            &ATTRIBUTES,
             &VERIFIER,
             &ENTRY,
             &SOME,
-            &TOLD,
+            &ATTRIBUTES,
             &SOME,
             &HANDLE,
             &NEW_ENTRY,

@@ -11,13 +11,13 @@ impl<C: Change> Core<C> {
     pub fn places(&self) -> Seq
         ensures { result.0 ≡ self.now.log.places }
     {
-        self.state.log.places()
+        self.log.places()
     }
 
     /// The greatest place such that each change at or before it is settled.
     pub fn settled(&self) -> Seq
         ensures { result.0 ≡ settled_place self.now.log }
     {
-        self.state.log.settled()
+        self.log.settled()
     }
 }

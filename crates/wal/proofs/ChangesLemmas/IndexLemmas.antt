@@ -414,10 +414,10 @@ pass_over start changes end i name fits l next some before =
     (one_follows start changes end i name fits l next some before) in
     passed_over-within changes end i x fits l e ∙ rw follows refl
 
-pub stop_at : (start : ℕ) (changes : List LogChange) (end i name : ℕ) → end ≤ length changes → i < end
+pub newest_ends_at : (start : ℕ) (changes : List LogChange) (end i name : ℕ) → end ≤ length changes → i < end
     → IsNext start (numbers changes) i name → (0 < name → start + end < name)
     → passed_over (drop i (take end changes)) ≡ 0
-stop_at start changes end i name fits l next past =
+newest_ends_at start changes end i name fits l next past =
     let in_list : i < length changes = omega (arith, l, fits) in
     let x : LogChange = get_or changes i nothing in
     let e : x ≡ get_or changes i x = get_or_default changes i nothing x in_list in

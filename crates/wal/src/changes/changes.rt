@@ -6,7 +6,7 @@ ghost use Rattle.circ.specs.Log.Log.{AreOnce, IsHomeOn, blocks_of, changed_block
 ghost use Rattle.circ.specs.Log.Log.{newest_of};
 ghost use Rattle.circ.specs.Log.Room.{tail_with};
 
-use crate::changes::absorbing::{absorb, push_group, shared};
+use crate::changes::absorption::{absorb, push_group, shared};
 use crate::changes::index::Index;
 use circ::{LogChange, Recovered};
 use disk::{BlockNo, SharedBlock};
@@ -129,26 +129,26 @@ impl Changes {
     /// leaves all as it was.
     pub fn append(
         &mut self,
-        ahead: usize,
+        preceding: usize,
         lacking: usize,
         place: u64,
         group: Vec<(BlockNo, SharedBlock)>,
     ) -> Result<(), AllocError>
-        requires ahead { ahead ≤ length self.old.changes }
-        requires lacking { lacking ≡ length (new_blocks (changed_blocks (drop ahead self.old.changes))
+        requires preceding { preceding ≤ length self.old.changes }
+        requires lacking { lacking ≡ length (new_blocks (changed_blocks (drop preceding self.old.changes))
             (blocks_of group.items)) }
         requires positions { self.old.start + (length self.old.changes + lacking) < 2 ^ 64 }
         requires homes { All (IsHomeOn self.old.blocks) (blocks_of group.items) }
-        requires tail { AreOnce (changed_blocks (drop ahead self.old.changes)) }
+        requires tail { AreOnce (changed_blocks (drop preceding self.old.changes)) }
         requires once { AreOnce (blocks_of group.items) }
         ensures appended { OnOk result (self.new ≡ record self.old {
-          changes = take ahead self.old.changes ++ tail_with (drop ahead self.old.changes) place group.items;
+          changes = take preceding self.old.changes ++ tail_with (drop preceding self.old.changes) place group.items;
         }) }
         ensures refused { OnErr result (self.new ≡ self.old) }
     {
         self.list.reserve(lacking)?;
         self.index.behind.reserve(lacking)?;
-        absorb(&mut self.list, &mut self.index, ahead, place, group);
+        absorb(&mut self.list, &mut self.index, preceding, place, group);
         Ok(())
     }
 

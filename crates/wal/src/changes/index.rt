@@ -31,7 +31,7 @@ impl Index {
         ensures start { IfOk result (λ index. index.start ≡ start) }
         ensures newest { IfOk result (λ index. index.newest.items ≡ replicate blocks 0) }
         ensures behind { IfOk result (λ index. index.behind.items ≡ []) }
-        ensures room { IfOk result (λ index. count ≤ deque_capacity index.behind) }
+        ensures has_space { IfOk result (λ index. count ≤ deque_capacity index.behind) }
     {
         let newest = vec![in alloc; 0u64; blocks as usize]?;
         let behind = VecDeque::with_capacity(alloc, count)?;
@@ -55,8 +55,8 @@ impl Index {
     }
 
     /// Notes a further change, of this block, behind these.
-    pub(crate) fn note(&mut self, list: &VecDeque<LogChange>, block: BlockNo)
-        requires room { length self.old.behind.items < deque_capacity self.old.behind }
+    pub(crate) fn track(&mut self, list: &VecDeque<LogChange>, block: BlockNo)
+        requires has_space { length self.old.behind.items < deque_capacity self.old.behind }
         requires position { self.old.start + length list.now.items + 1 < 2 ^ 64 }
         requires home { block.0 < length self.old.newest.items }
         requires index { IsIndex self.old.start (numbers list.now.items) self.old.newest.items self.old.behind.items }

@@ -5,7 +5,7 @@ ghost use Rattle.circ.specs.Log.Log.{changed_blocks, new_blocks};
 ghost use Rattle.circ.specs.Log.Room.{HasPlaces, with_group};
 ghost use Rattle.circ.specs.Log.Effects.{HasAppended};
 ghost use Rattle.circ.specs.Log.Grows.{GrowsBy, StandsStill};
-ghost use Rattle.circ.specs.Log.Calls.{KeepsAgreement};
+ghost use Rattle.circ.specs.Log.Calls.{PreservesAgreement};
 
 use super::Wal;
 use crate::Append;
@@ -25,7 +25,7 @@ impl Wal {
         ensures seen { result ≡ Append.Appended → HasAppended self.old group.items self.new }
         ensures grows { result ≡ Append.Appended → GrowsBy self.old group.items self.new }
         ensures still { result ≡ Append.Appended → StandsStill self.old self.new }
-        ensures law { KeepsAgreement self.old self.new }
+        ensures law { PreservesAgreement self.old self.new }
     {
         self.add(group)
     }
@@ -40,12 +40,15 @@ impl Wal {
         ensures refused { result ≢ Append.Appended → self.new ≡ self.old }
         ensures full { result ≡ Append.Full ↔ (LOG_SLOTS < tail_after self.old (blocks_of group.items)) }
     {
-        let ahead = self.logged + self.batches.log.taken;
-        let added = count_new(&self.changes, ahead, &group);
-        if LOG_SLOTS as usize - (self.changes.len() - ahead) < added {
+        let preceding = self.logged + self.batches.log.taken;
+        let added = count_new(&self.changes, preceding, &group);
+        if LOG_SLOTS as usize - (self.changes.len() - preceding) < added {
             return Append::Full;
         }
-        match self.changes.append(ahead, added, self.places + 1, group) {
+        match self
+            .changes
+            .append(preceding, added, self.places + 1, group)
+        {
             Ok(()) => {
                 self.places += 1;
                 Append::Appended
@@ -56,13 +59,13 @@ impl Wal {
 }
 
 // How many blocks of a group no change from an index on is of.
-fn count_new(changes: &Changes, ahead: usize, group: &[(BlockNo, SharedBlock)]) -> usize
-    requires { ahead ≤ length changes.now.changes }
-    ensures { result ≡ length (new_blocks (changed_blocks (drop ahead changes.now.changes)) (blocks_of group.now)) }
+fn count_new(changes: &Changes, preceding: usize, group: &[(BlockNo, SharedBlock)]) -> usize
+    requires { preceding ≤ length changes.now.changes }
+    ensures { result ≡ length (new_blocks (changed_blocks (drop preceding changes.now.changes)) (blocks_of group.now)) }
 {
     let mut count = 0;
     for change in group {
-        if !changes.has(ahead, change.0) {
+        if !changes.has(preceding, change.0) {
             count += 1;
         }
     }

@@ -75,21 +75,21 @@ pub(super) struct Batches {
 
 impl Batches {
     /// That of a side.
-    pub(super) fn of(&self, side: Side) -> &Batch
-        ensures { result.now ≡ batch_of side self.now }
+    pub(super) fn of(&self, role: Side) -> &Batch
+        ensures { result.now ≡ batch_of role self.now }
     {
-        match side {
+        match role {
             Side::Log => &self.log,
             Side::Home => &self.home,
         }
     }
 
     /// That of a side, to be changed.
-    pub(super) fn of_mut(&mut self, side: Side) -> &mut Batch
-        ensures* lends { sem 𝓛 (LendsBatch side self.entry result) }
-        ensures now { result.now ≡ batch_of side self.old }
+    pub(super) fn of_mut(&mut self, role: Side) -> &mut Batch
+        ensures* lends { sem 𝓛 (LendsBatch role self.entry result) }
+        ensures now { result.now ≡ batch_of role self.old }
     {
-        match side {
+        match role {
             Side::Log => &mut self.log,
             Side::Home => &mut self.home,
         }

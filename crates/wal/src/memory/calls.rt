@@ -3,7 +3,7 @@
 ghost use Rattle.std.specs.Prelude.{◌≡◌, ◌<◌, IfSome, IsNone, IsSome, is_some, if◌then◌else◌, MatchOption};
 ghost use Rattle.std.specs.Prelude.{◌+◌, nat_lt, true, false};
 ghost use Rattle.wal.specs.Batch.{IsStageOf, step_at};
-ghost use Rattle.wal.specs.BySide.{has_batch, out_of, step_of, taken_by, with_side};
+ghost use Rattle.wal.specs.ByRole.{has_batch, out_of, step_of, taken_by, with_role_step};
 ghost use Rattle.wal.specs.Sides.{IsNextCall, call_comes_back, call_goes_out, is_out, may_call, with_back, with_out};
 ghost use Rattle.circ.specs.Log.Calls.{InstCallComesBack, InstCallGoesOut, LogCallComesBack, LogCallGoesOut};
 ghost use Rattle.circ.specs.Log.Effects.{HasGoneOn};
@@ -14,32 +14,32 @@ ghost use Rattle.circ.specs.Log.Logger.{IsNextLogCall, is_log_out, may_log, with
 
 use super::Wal;
 use super::batch::Stage;
-use crate::{InstIo, IoCall, LogIo, SideIo};
+use crate::{InstIo, IoCall, LogIo, RoleIo};
 use disk::{Block, Handed, Side};
 
 impl Wal {
     /// Takes what there is for a side where it has taken nothing, and hands out the side's next call.
-    pub fn next(&mut self, side: Side) -> Option<SideIo>
+    pub fn next(&mut self, role: Side) -> Option<RoleIo>
         ensures lawful { IsLawful self.old }
-        ensures causes { is_some result ≡ may_call side self.old }
+        ensures causes { is_some result ≡ may_call role self.old }
         ensures none { IsNone result → self.new ≡ self.old }
-        ensures some { IsSome result → self.new ≡ with_out side self.old }
-        ensures call { IfSome result (IsNextCall side self.new) }
+        ensures some { IsSome result → self.new ≡ with_out role self.old }
+        ensures call { IfSome result (IsNextCall role self.new) }
         ensures within { IfSome result (λ io. IsCallWithin self.new.blocks io.call) }
         ensures seen { HasGoneOn self.old self.new }
-        ensures law { IfSome result (λ io. call_goes_out side self.old io self.new) }
+        ensures law { IfSome result (λ io. call_goes_out role self.old io self.new) }
     {
-        self.next_io(side)
+        self.next_io(role)
     }
 
     /// Takes a call of a side back, with whether it was made. One that isn't the call that is out changes nothing.
     /// One that failed breaks the log for good.
-    pub fn done(&mut self, side: Side, io: SideIo, ok: bool)
-        ensures log { self.new ≡ (if is_out side self.old io then with_back side self.old ok else self.old) }
+    pub fn done(&mut self, role: Side, io: RoleIo, ok: bool)
+        ensures log { self.new ≡ (if is_out role self.old io then with_back role self.old ok else self.old) }
         ensures seen { HasGoneOn self.old self.new }
-        ensures law { call_comes_back side self.old io ok self.new }
+        ensures law { call_comes_back role self.old io ok self.new }
     {
-        self.take_io(side, io, ok);
+        self.take_io(role, io, ok);
     }
 
     /// The logger's next call: the writes of the tail to its slots, a barrier, the write of the header, a barrier.
@@ -89,32 +89,32 @@ impl Wal {
     }
 
     // Hands a side's next call out.
-    fn next_io(&mut self, side: Side) -> Option<SideIo>
+    fn next_io(&mut self, role: Side) -> Option<RoleIo>
         ensures lawful { IsLawful self.old }
-        ensures causes { is_some result ≡ may_call side self.old }
+        ensures causes { is_some result ≡ may_call role self.old }
         ensures none { IsNone result → self.new ≡ self.old }
-        ensures some { IsSome result → self.new ≡ with_out side self.old }
-        ensures call { IfSome result (IsNextCall side self.new) }
+        ensures some { IsSome result → self.new ≡ with_out role self.old }
+        ensures call { IfSome result (IsNextCall role self.new) }
         ensures within { IfSome result (λ io. IsCallWithin self.new.blocks io.call) }
     {
-        let (taken, stage) = self.begun(side);
+        let (taken, stage) = self.begun(role);
         if self.broken || taken == 0 {
             return None;
         }
-        let batch = self.batches.of_mut(side);
+        let batch = self.batches.of_mut(role);
         let buffer = batch.buffer.take()?;
         batch.taken = taken;
         batch.stage = stage;
-        Some(self.io(side, buffer))
+        Some(self.io(role, buffer))
     }
 
     // Takes a call back.
-    fn take_io(&mut self, side: Side, io: SideIo, ok: bool)
+    fn take_io(&mut self, role: Side, io: RoleIo, ok: bool)
         ensures lawful { IsLawful self.old }
-        ensures log { self.new ≡ (if is_out side self.old io then with_back side self.old ok else self.old) }
+        ensures log { self.new ≡ (if is_out role self.old io then with_back role self.old ok else self.old) }
     {
-        let is_out = self.is_out(side, &io);
-        let SideIo {
+        let is_out = self.is_out(role, &io);
+        let RoleIo {
             beginning: _,
             step: _,
             call: _,
@@ -123,8 +123,8 @@ impl Wal {
         if !is_out {
             return;
         }
-        let after = self.after(side);
-        let batch = self.batches.of_mut(side);
+        let after = self.after(role);
+        let batch = self.batches.of_mut(role);
         batch.buffer = Some(content.into_buffer());
         if !ok {
             self.broken = true;
@@ -132,46 +132,46 @@ impl Wal {
         }
         match after {
             Some(stage) => batch.stage = stage,
-            None => self.end(side),
+            None => self.end(role),
         }
     }
 
     // What a side has taken, and its call, once its next call is out: where it has nothing, it takes what there is.
-    fn begun(&self, side: Side) -> (usize, Stage)
-        ensures some { nat_lt 0 result.0 ≡ has_batch side self.now }
-        ensures out { 0 < result.0 → with_out side self.now
-            ≡ with_side side self.now result.0 (step_at result.0 result.1) true }
+    fn begun(&self, role: Side) -> (usize, Stage)
+        ensures some { nat_lt 0 result.0 ≡ has_batch role self.now }
+        ensures out { 0 < result.0 → with_out role self.now
+            ≡ with_role_step role self.now result.0 (step_at result.0 result.1) true }
         ensures stage { IsStageOf result.0 result.1 }
     {
-        let batch = self.batches.of(side);
+        let batch = self.batches.of(role);
         if batch.taken > 0 {
             return (batch.taken, batch.stage);
         }
-        let taken = self.to_take(side);
-        (taken, self.body_from(side, taken, 0))
+        let taken = self.to_take(role);
+        (taken, self.body_from(role, taken, 0))
     }
 
     // The call is the side's that is out.
-    fn is_out(&self, side: Side, io: &SideIo) -> bool
-        ensures { result ≡ is_out side self.now io.now }
+    fn is_out(&self, role: Side, io: &RoleIo) -> bool
+        ensures { result ≡ is_out role self.now io.now }
     {
-        let batch = self.batches.of(side);
+        let batch = self.batches.of(role);
         batch.buffer.is_none()
-            && io.beginning == self.changes.start() + self.ahead(side) as u64
+            && io.beginning == self.changes.start() + self.preceding(role) as u64
             && io.step == batch.step()
     }
 
     // The side's call after the one that is out. There is none after the last.
-    fn after(&self, side: Side) -> Option<Stage>
-        ensures last { IsNone result → step_of side self.now ≡ taken_by side self.now + 2 }
-        ensures more { IfSome result (λ stage. with_back side self.now true
-            ≡ with_side side self.now (taken_by side self.now) (step_at (taken_by side self.now) stage) false) }
-        ensures begun { IfSome result (λ stage. 0 < step_at (taken_by side self.now) stage) }
-        ensures stage { IfSome result (IsStageOf (taken_by side self.now)) }
+    fn after(&self, role: Side) -> Option<Stage>
+        ensures last { IsNone result → step_of role self.now ≡ taken_by role self.now + 2 }
+        ensures more { IfSome result (λ stage. with_back role self.now true
+            ≡ with_role_step role self.now (taken_by role self.now) (step_at (taken_by role self.now) stage) false) }
+        ensures begun { IfSome result (λ stage. 0 < step_at (taken_by role self.now) stage) }
+        ensures stage { IfSome result (IsStageOf (taken_by role self.now)) }
     {
-        let batch = self.batches.of(side);
+        let batch = self.batches.of(role);
         match batch.stage {
-            Stage::Body(number) => Some(self.body_from(side, batch.taken, number + 1)),
+            Stage::Body(number) => Some(self.body_from(role, batch.taken, number + 1)),
             Stage::BodyBarrier => Some(Stage::Header),
             Stage::Header => Some(Stage::HeaderBarrier),
             Stage::HeaderBarrier => None,
@@ -179,28 +179,28 @@ impl Wal {
     }
 
     // The side's call, in a buffer.
-    fn io(&self, side: Side, buffer: Block) -> SideIo
-        requires { 0 < taken_by side self.now }
-        ensures call { IsNextCall side self.now result }
+    fn io(&self, role: Side, buffer: Block) -> RoleIo
+        requires { 0 < taken_by role self.now }
+        ensures call { IsNextCall role self.now result }
         ensures within { IsCallWithin self.now.blocks result.call }
     {
-        let batch = self.batches.of(side);
+        let batch = self.batches.of(role);
         let (call, content) = match batch.stage {
             Stage::Body(number) => {
-                let (block, content) = self.hand_body(side, number, buffer);
+                let (block, content) = self.hand_body(role, number, buffer);
                 (IoCall::Write(block), content)
             }
             Stage::Header => {
                 let mut content = buffer;
-                let block = self.put_telling(side, &mut content);
+                let block = self.put_control(role, &mut content);
                 (IoCall::Write(block), Handed::own(content))
             }
             Stage::BodyBarrier | Stage::HeaderBarrier => {
-                (IoCall::Barrier(side), Handed::own(buffer))
+                (IoCall::Barrier(role), Handed::own(buffer))
             }
         };
-        SideIo {
-            beginning: self.changes.start() + self.ahead(side) as u64,
+        RoleIo {
+            beginning: self.changes.start() + self.preceding(role) as u64,
             step: batch.step(),
             call,
             content,

@@ -1,7 +1,7 @@
 -- A device call of the log or of the installer is one call of the device.
 use Rattle.std.proofs.Common.{◌≡◌, ◌∙◌, ◌||◌, ◌&&◌, Bool, true, false, refl, Result, Ok, Err, is_ok, is_err}
 use Rattle.std.proofs.Common.{nat_eq}
-use Rattle.circ.specs.Log.Recovery.{IsUnspoiled}
+use Rattle.circ.specs.Log.Recovery.{IsCertain}
 use Rattle.disk.specs.Device.{Content, Device, OneLater}
 use Rattle.disk.specs.declared.device.Failed.{Failed}
 use Rattle.circ.specs.Log.Io.{Io, HasMade, HasMadeCall}
@@ -32,9 +32,9 @@ pub made_size : (old : Device) (io : Io) (result : Result Unit Failed) (new : De
     → HasMade old io result new → new.size ≡ old.size
 made_size old io result new made = (made_later old io result new made).size
 
--- a call that was made well spoils no block
+-- a call that was made well makes no block uncertain
 pub made_clean : (old : Device) (io : Io) (result : Result Unit Failed) (new : Device)
-    → HasMade old io result new → is_ok result ≡ true → IsUnspoiled old → IsUnspoiled new
+    → HasMade old io result new → is_ok result ≡ true → IsCertain old → IsCertain new
 made_clean old io result new made ok clean block = by_call io.call result made ok
   where
     no_more : (was same : Bool) → was ≡ false → (was || (false && same)) ≡ false
@@ -42,8 +42,8 @@ made_clean old io result new made ok clean block = by_call io.call result made o
     no_more false same is = refl
 
     by_call : (call : IoCall) (result : Result Unit Failed) → HasMadeCall old call io.content result new
-        → is_ok result ≡ true → new.spoiled block ≡ false
+        → is_ok result ≡ true → new.uncertain block ≡ false
     by_call (Write at) (Ok _) made ok =
-        made.spoiled block ∙ no_more (old.spoiled block) (nat_eq block at.0) (clean block)
+        made.uncertain block ∙ no_more (old.uncertain block) (nat_eq block at.0) (clean block)
     by_call (Write at) (Err _) made ok = cc
-    by_call (Barrier side) result made ok = made.spoiled block ∙ clean block
+    by_call (Barrier side) result made ok = made.uncertain block ∙ clean block

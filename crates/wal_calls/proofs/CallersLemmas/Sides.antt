@@ -10,7 +10,7 @@ use Rattle.txn.proofs.Sides.{call_blocks, call_inodes}
 use Rattle.txn.specs.Sides.{CoreBack, LeavesBack, base_back, with_call}
 use Rattle.txn_law.specs.Core.{CoreState}
 use Rattle.txn_law.specs.CoreLaw.{IsLawfulCore}
-use Rattle.txn_law.specs.CoreWindow.{IsHomeOf, KeepsHome, KeepsReads}
+use Rattle.txn_law.specs.CoreWindow.{IsHomeOf, PreservesHome, PreservesReads}
 use Rattle.wal.specs.Sides.{IsNextCall, call_comes_back, call_goes_out, call_is_made, is_out, may_call, with_back}
 use Rattle.circ.specs.Log.Io.{Io, IsCallWithin}
 use Rattle.wal_calls.specs.declared.callers.stepped.Stepped.{Stepped}
@@ -24,11 +24,11 @@ use Rattle.wal_calls.specs.Callers.Steps.{HasEnded, HasStepped, comes_back, goes
 pub next_is : (side : Side) (o : Option Io) (old new : CoreState) → is_some o ≡ may_call side old.log
     → (IsSome o → new ≡ with_call side old) → (IsNone o → new ≡ old)
     → IfSome o (λ io. IsCallWithin new.log.blocks io.call) → IfSome o (IsNextCall side new.log)
-    → IfSome o (λ io. call_goes_out side old.log io new.log) → ((other : ℕ) → KeepsReads old new other)
-    → KeepsHome old new
+    → IfSome o (λ io. call_goes_out side old.log io new.log) → ((other : ℕ) → PreservesReads old new other)
+    → PreservesHome old new
     → MatchOption o ((new ≡ old) × (may_call side old.log ≡ false)) (λ io. goes_out side old io new)
-next_is side None old new causes some none within call law stays keeps = (none refl, sym causes)
-next_is LogSide (Some io) old new causes some none within call law stays keeps =
+next_is side None old new causes some none within call law stays preserves = (none refl, sym causes)
+next_is LogSide (Some io) old new causes some none within call law stays preserves =
     let same : new.log.blocks ≡ old.log.blocks = ap (λ (core : CoreState). core.log.blocks) (some refl) in
     record {
       may = sym causes;
@@ -38,9 +38,9 @@ next_is LogSide (Some io) old new causes some none within call law stays keeps =
       next = call;
       law = law;
       reads = stays;
-      home = keeps;
+      home = preserves;
     }
-next_is Home (Some io) old new causes some none within call law stays keeps =
+next_is Home (Some io) old new causes some none within call law stays preserves =
     let same : new.log.blocks ≡ old.log.blocks =
     ap (λ (core : CoreState). core.log.blocks) (some refl) ∙ call_blocks Home old in
     record {
@@ -51,7 +51,7 @@ next_is Home (Some io) old new causes some none within call law stays keeps =
       next = call;
       law = law;
       reads = stays;
-      home = keeps;
+      home = preserves;
     }
 
 pub next_blocks : (side : Side) (o : Option Io) (old new : CoreState) → (IsSome o → new ≡ with_call side old)
@@ -71,7 +71,7 @@ next_inodes side (Some io) old new some none =
 pub comes_back_is : (side : Side) (old new : CoreState) (io : Io) (ok : Bool)
     → new.log ≡ (if is_out side old.log io then with_back side old.log ok else old.log)
     → new.log.blocks ≡ old.log.blocks → CoreBack side old new → LeavesBack side old new
-    → call_comes_back side old.log io ok new.log → ((other : ℕ) → KeepsReads old new other)
+    → call_comes_back side old.log io ok new.log → ((other : ℕ) → PreservesReads old new other)
     → ((base : Image) → IsHomeOf base old → IsHomeOf (base_back side base old.log io ok) new)
     → comes_back side old io ok new
 comes_back_is LogSide old new io ok log blocks core leaves law reads home =
@@ -107,10 +107,10 @@ goes_may : (side : Side) (old : CoreState) (io : Io) (new : CoreState) → goes_
 goes_may LogSide old io new goes = goes.may
 goes_may Home old io new goes = goes.may
 
-pub stepped_may : (side : Side) (old new : CoreState) (made : Option Bool) (told : Option Stepped)
+pub stepped_may : (side : Side) (old new : CoreState) (made : Option Bool) (step_result : Option Stepped)
     (next : Option Io) (later : Option Bool)
-    → HasStepped (may_call side) (goes_out side) (comes_back side) old None made told new next later
-    → is_some told ≡ may_call side old.log
+    → HasStepped (may_call side) (goes_out side) (comes_back side) old None made step_result new next later
+    → is_some step_result ≡ may_call side old.log
 stepped_may side old new made (Some (Next call)) (Some io) later is = sym (goes_may side old io new is.0)
 stepped_may side old new made (Some (Next call)) None later is = absurd is
 stepped_may side old new made (Some (Done ok)) next later is = absurd is
@@ -119,19 +119,19 @@ stepped_may side old new made None next later is = sym is.3
 -- what was taken is made and given back
 module _ (side : Side) (is_plan : ℕ → ℕ → List ObjectBytes → List ObjectBytes → Type 0)
     (old mid new last : CoreState) (d e : Device) where
-  back_is : (io : Io) (ok : Bool) (told : Option Stepped) (next : Option Io) (later : Option Bool)
-      → HasStepped (may_call side) (goes_out side) (comes_back side) mid (Some io) (Some ok) told new next later
+  back_is : (io : Io) (ok : Bool) (step_result : Option Stepped) (next : Option Io) (later : Option Bool)
+      → HasStepped (may_call side) (goes_out side) (comes_back side) mid (Some io) (Some ok) step_result new next later
       → HasEnded (comes_back side) new next later last → comes_back side mid io ok last
-  back_is io ok (Some (Done told)) next later is ended =
+  back_is io ok (Some (Done step_result)) next later is ended =
       let none = subst (λ (out : Option Io). HasEnded (comes_back side) new out later last) is.2 ended in
       subst (λ (core : CoreState). comes_back side mid io ok core) (sym none) is.0
   back_is io ok (Some (Next call)) next later is ended = absurd is
   back_is io ok None next later is ended = absurd is
 
-  pub makes_one : (made : Option Bool) (told again : Option Stepped) (out next : Option Io)
+  pub makes_one : (made : Option Bool) (step_result again : Option Stepped) (out next : Option Io)
       (unmade later after : Option Bool) (answer : Option Bool)
-      → HasStepped (may_call side) (goes_out side) (comes_back side) old None made told mid out unmade
-      → is_some told ≡ true → IsLawfulCore is_plan mid
+      → HasStepped (may_call side) (goes_out side) (comes_back side) old None made step_result mid out unmade
+      → is_some step_result ≡ true → IsLawfulCore is_plan mid
       → IsTried (call_is_made side) d out unmade answer e later
       → HasStepped (may_call side) (goes_out side) (comes_back side) mid out later again new next after
       → HasEnded (comes_back side) new next after last

@@ -48,19 +48,19 @@ comes LogSide old new io ok is = ap (λ (log : Log). log.places) is.log
 comes Home old new io ok is = ap (λ (log : Log). log.places) is.log
     ∙ either (is_inst_out old.log io) (with_inst_back old.log ok) old.log old.log (inst_back old.log ok) refl
 
-pub stepped : (side : Side) (old new : CoreState) (out : Option Io) (made : Option Bool) (told : Option Stepped)
+pub stepped : (side : Side) (old new : CoreState) (out : Option Io) (made : Option Bool) (step_result : Option Stepped)
     (next : Option Io) (later : Option Bool)
-    → HasStepped (may_call side) (goes_out side) (comes_back side) old out made told new next later
+    → HasStepped (may_call side) (goes_out side) (comes_back side) old out made step_result new next later
     → new.log.places ≡ old.log.places
 stepped side old new None made (Some (Next call)) (Some io) later is = goes side old new io is.0
 stepped side old new None made (Some (Next call)) None later is = absurd is
 stepped side old new None made (Some (Done ok)) next later is = absurd is
 stepped side old new None made None next later is = places_of old new is.0
-stepped side old new (Some io) (Some ok) (Some (Done told)) next later is = comes side old new io ok is.0
+stepped side old new (Some io) (Some ok) (Some (Done step_result)) next later is = comes side old new io ok is.0
 stepped side old new (Some io) (Some ok) (Some (Next call)) next later is = absurd is
 stepped side old new (Some io) (Some ok) None next later is = absurd is
 stepped side old new (Some io) None None next later is = places_of old new is.0
-stepped side old new (Some io) None (Some told) next later is = absurd is
+stepped side old new (Some io) None (Some step_result) next later is = absurd is
 
 pub ended : (side : Side) (old new : CoreState) (out : Option Io) (made : Option Bool)
     → HasEnded (comes_back side) old out made new → new.log.places ≡ old.log.places

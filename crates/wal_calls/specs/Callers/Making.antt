@@ -39,8 +39,8 @@ pub record IsMadeOn (IsMade : CallIsMade) (old : Device) (io : Io) (ok : Bool) (
 abbrev pub IsTried : CallIsMade → Device → Option Io → Option Bool → Option Bool → Device → Option Bool → Type 0
 IsTried IsMade old (Some io) None (Some ok) new later = IsMadeOn IsMade old io ok new × (later ≡ Some ok)
 IsTried IsMade old (Some io) None None new later = ⊥
-IsTried IsMade old (Some io) (Some ok) told new later = (told ≡ None) × (new ≡ old) × (later ≡ Some ok)
-IsTried IsMade old None made told new later = (told ≡ None) × (new ≡ old) × (later ≡ made)
+IsTried IsMade old (Some io) (Some ok) step_result new later = (step_result ≡ None) × (new ≡ old) × (later ≡ Some ok)
+IsTried IsMade old None made step_result new later = (step_result ≡ None) × (new ≡ old) × (later ≡ made)
 
 -- the same on a port
 abbrev pub IsTriedOn : AnsweredCalls → Option Io → Option Bool → Option (Result Unit Failed) → AnsweredCalls
@@ -48,5 +48,5 @@ abbrev pub IsTriedOn : AnsweredCalls → Option Io → Option Bool → Option (R
 IsTriedOn old (Some io) None (Some answer) new later =
     (new ≡ old ++ (port_call io, answer) ∷ []) × (later ≡ Some (is_ok answer))
 IsTriedOn old (Some io) None None new later = ⊥
-IsTriedOn old (Some io) (Some ok) told new later = (told ≡ None) × (new ≡ old) × (later ≡ Some ok)
-IsTriedOn old None made told new later = (told ≡ None) × (new ≡ old) × (later ≡ made)
+IsTriedOn old (Some io) (Some ok) step_result new later = (step_result ≡ None) × (new ≡ old) × (later ≡ Some ok)
+IsTriedOn old None made step_result new later = (step_result ≡ None) × (new ≡ old) × (later ≡ made)

@@ -4,7 +4,7 @@ use Rattle.disk.specs.Crash.{Image}
 use Rattle.disk.specs.declared.block.Side.{Side}
 use Rattle.disk.specs.declared.block.Side.TheVariants.{Log as LogSide, Home}
 use Rattle.txn_law.specs.Core.{CoreState, past, with_inst_call, with_log_call}
-use Rattle.txn_law.specs.CoreWindow.{IsHomeOf, KeepsHome, KeepsReads}
+use Rattle.txn_law.specs.CoreWindow.{IsHomeOf, PreservesHome, PreservesReads}
 use Rattle.txn_law.specs.Leaves.{Leaves, in_memory, is_fetching, taken_by}
 use Rattle.circ.specs.Log.Calls.{InstCallComesBack, InstCallGoesOut, LogCallComesBack, LogCallGoesOut, home_after}
 use Rattle.circ.specs.Log.Installer.{IsNextInstCall, is_inst_out, may_install, with_inst_back}
@@ -25,8 +25,8 @@ pub record LogGoesOut (old : CoreState) (io : Io) (new : CoreState) : Type 0 whe
   pub within : IsCallWithin old.log.blocks io.call
   pub next : IsNextLogCall new.log io
   pub law : LogCallGoesOut old.log io new.log
-  pub reads : (other : ℕ) → KeepsReads old new other
-  pub home : KeepsHome old new
+  pub reads : (other : ℕ) → PreservesReads old new other
+  pub home : PreservesHome old new
 
 -- It was given a call of the logger back, with whether that was answered Ok. One that isn't the one out changes
 -- nothing.
@@ -35,8 +35,8 @@ pub record LogComesBack (old : CoreState) (io : Io) (ok : Bool) (new : CoreState
   pub blocks : new.log.blocks ≡ old.log.blocks
   pub core : new ≡ record old { log = new.log }
   pub law : LogCallComesBack old.log io ok new.log
-  pub reads : (other : ℕ) → KeepsReads old new other
-  pub home : KeepsHome old new
+  pub reads : (other : ℕ) → PreservesReads old new other
+  pub home : PreservesHome old new
 
 -- The core handed out the installer's next call.
 pub record InstGoesOut (old : CoreState) (io : Io) (new : CoreState) : Type 0 where
@@ -46,8 +46,8 @@ pub record InstGoesOut (old : CoreState) (io : Io) (new : CoreState) : Type 0 wh
   pub within : IsCallWithin old.log.blocks io.call
   pub next : IsNextInstCall new.log io
   pub law : InstCallGoesOut old.log io new.log
-  pub reads : (other : ℕ) → KeepsReads old new other
-  pub home : KeepsHome old new
+  pub reads : (other : ℕ) → PreservesReads old new other
+  pub home : PreservesHome old new
 
 -- It was given a call of the installer back, with whether that was answered Ok. One that isn't the one out changes
 -- nothing. What was installed goes.
@@ -61,7 +61,7 @@ pub record InstComesBack (old : CoreState) (io : Io) (ok : Bool) (new : CoreStat
   }
   pub leaves : Leaves new (taken_by old) (is_fetching old) (in_memory old)
   pub law : InstCallComesBack old.log io ok new.log
-  pub reads : (other : ℕ) → KeepsReads old new other
+  pub reads : (other : ℕ) → PreservesReads old new other
   pub home : (base : Image) → IsHomeOf base old
       → IsHomeOf (if is_inst_out old.log io then home_after base old.log ok else base) new
 
@@ -93,8 +93,8 @@ HasStepped may Goes Comes old None made (Some (Next call)) new None later = ⊥
 HasStepped may Goes Comes old None made (Some (Done ok)) new next later = ⊥
 HasStepped may Goes Comes old None made None new next later =
     (new ≡ old) × (next ≡ None) × (later ≡ made) × (may old.log ≡ false)
-HasStepped may Goes Comes old (Some io) (Some ok) (Some (Done told)) new next later =
-    Comes old io ok new × (told ≡ ok) × (next ≡ None) × (later ≡ None)
+HasStepped may Goes Comes old (Some io) (Some ok) (Some (Done step_result)) new next later =
+    Comes old io ok new × (step_result ≡ ok) × (next ≡ None) × (later ≡ None)
 HasStepped may Goes Comes old (Some io) (Some ok) (Some (Next call)) new next later = ⊥
 HasStepped may Goes Comes old (Some io) (Some ok) None new next later = ⊥
 HasStepped may Goes Comes old (Some io) None None new next later =

@@ -9,14 +9,14 @@ use crate::callers::Stepped;
 use crate::callers::calls::{is_within, was_ok};
 use crate::callers::options::put;
 use disk::{CrashDisk, Failed, Port, Side};
-use txn::{Change, Core, SideIo};
+use txn::{Change, Core, RoleIo};
 use wal::IoCall;
 
 /// Who makes the device calls of one side, the logger those of the log's, the installer those of the home side: its
 /// call that is out, and once that was made, whether it was answered Ok. It isn't let go with a call that is out: that
 /// goes back to the core. Each step names the side.
 pub struct Caller {
-    pub(crate) io: Option<SideIo>,
+    pub(crate) io: Option<RoleIo>,
     pub(crate) made: Option<bool>,
 }
 
@@ -38,7 +38,7 @@ impl Caller {
     }
 
     /// The device call that is out.
-    pub fn out(&self) -> Option<&SideIo>
+    pub fn out(&self) -> Option<&RoleIo>
         ensures { MatchOption result (self.now.io ≡ None) (λ io. self.now.io ≡ Some io.now) }
     {
         self.io.as_ref()
@@ -133,7 +133,7 @@ impl Caller {
 }
 
 // The core's next call of a side.
-fn next<C: Change>(side: Side, core: &mut Core<C>) -> Option<SideIo>
+fn next<C: Change>(side: Side, core: &mut Core<C>) -> Option<RoleIo>
     ensures next { MatchOption result ((core.new ≡ core.old) × (may_call side core.old.log ≡ false))
         (λ io. goes_out side core.old io core.new) }
     ensures blocks { core.new.log.blocks ≡ core.old.log.blocks }
@@ -143,7 +143,7 @@ fn next<C: Change>(side: Side, core: &mut Core<C>) -> Option<SideIo>
 }
 
 // Gives the core a call of a side back.
-fn done<C: Change>(side: Side, core: &mut Core<C>, io: SideIo, ok: bool)
+fn done<C: Change>(side: Side, core: &mut Core<C>, io: RoleIo, ok: bool)
     ensures back { comes_back side core.old io ok core.new }
     ensures blocks { core.new.log.blocks ≡ core.old.log.blocks }
     ensures inodes { core.new.inodes ≡ core.old.inodes }
@@ -155,7 +155,7 @@ fn done<C: Change>(side: Side, core: &mut Core<C>, io: SideIo, ok: bool)
 
 // Makes a call on a disk, and answers whether that answered Ok.
 #[tactic(auto, using(crate::proofs::CallersLemmas::Made::made_size))]
-fn make_on_disk<D: CrashDisk>(io: &SideIo, disk: &mut D) -> bool
+fn make_on_disk<D: CrashDisk>(io: &RoleIo, disk: &mut D) -> bool
     ensures made { (side : Side) → IsMadeOn (call_is_made side) (D.device disk.old) io.now result
         (D.device disk.new) }
     ensures size { (D.device disk.new).size ≡ (D.device disk.old).size }

@@ -107,13 +107,13 @@ pub fn make_call<G: Whole, P: Port, T: Gate>(side: Side, seat: &mut IoSeat<G, P>
         content,
         number: Snapshot::of(number),
     };
-    *taken = noted(taken, &handed, &made);
+    *taken = traced(taken, &handed, &made);
     true
 }
 
 // The values so far, and the next one with its answer.
 #[tactic(auto, using(crate::proofs::SeatsLemmas::Numbered::one_more, crate::proofs::SeatsLemmas::Numbered::length_snoc))]
-fn noted(
+fn traced(
     taken: &Log<HandedOut, Result<(), Failed>>,
     handed: &HandedOut,
     answer: &Result<(), Failed>,

@@ -3,7 +3,7 @@ use Rattle.disk.specs.Device.{Device}
 use Rattle.circ.specs.Log.Logger.{slot_block}
 use Rattle.circ.specs.Log.Recovery.{image_of}
 use Rattle.circ.proofs.LogLemmas.Lawful.{home_more}
-use Rattle.circ.proofs.LogLemmas.OnlyRead.{reads_then, image_then, unspoiled_then, positions_more}
+use Rattle.circ.proofs.LogLemmas.OnlyRead.{reads_then, image_then, certain_then, positions_more}
 use Rattle.disk.specs.declared.block.BlockNo.{BlockNo}
 use Rattle.circ.proofs.recovery.read_slots.Goals as goal
 
@@ -17,19 +17,19 @@ loop-i-preserved g c =
     record {
       reads = reads_then first before with_changes inv.reads c.read_block.ensures.reads;
       failures = c.in_ok-read_block.ensures.failure ∙ inv.failures;
-      model = λ keeps. inv.model (c.read_block.ensures.model keeps);
+      model = λ preserves. inv.model (c.read_block.ensures.model preserves);
       count = omega (arith, c.push_reserved.ensures);
-      room = omega (arith, c.push_reserved.ensures);
+      has_space = omega (arith, c.push_reserved.ensures);
       homes = home_more c.args.blocks c.loop-i.logged.items c.push_reserved.new.self.items home
           c.read_block.new.out
           c.push_reserved.ensures.items inv.homes
           (rw c.address_at-home.ensures (c.requires.homes c.loop-i.i c.loop-i-test.true));
-      positions = λ keeps unspoiled.
+      positions = λ preserves certain.
           positions_more c.args.header.now (image_of first) c.args.start c.loop-i.i c.loop-i.logged.items
           c.push_reserved.new.self.items home c.read_block.new.out
-          (inv.positions (c.read_block.ensures.model keeps) unspoiled)
+          (inv.positions (c.read_block.ensures.model preserves) certain)
           c.push_reserved.ensures.items
           (rw c.address_at-home.ensures refl)
-          (c.in_ok-read_block.ensures.newest keeps (unspoiled_then first before inv.reads unspoiled)
+          (c.in_ok-read_block.ensures.newest preserves (certain_then first before inv.reads certain)
           ∙ image_then first before inv.reads (slot_block (c.args.start + c.loop-i.i)));
     }

@@ -4,7 +4,7 @@ use Rattle.layout.specs.declared.slot.TheConstants.{SLOT_BYTES}
 use Rattle.layout.proofs.Fits.{part-length}
 use Rattle.layout.specs.SlotForm.{number_under, read_slot}
 use Rattle.dir.specs.Slots.{block_slot}
-use Rattle.dir.proofs.ClearBlocks.{one_clear}
+use Rattle.dir.proofs.ValidBlocks.{one_valid}
 use Rattle.dir.proofs.FoundIn.{no_number, one_more}
 use Rattle.dir.proofs.Looks.{refused_none, under_ok}
 use Rattle.dir.proofs.block.find_in_block.Goals as goal
@@ -18,15 +18,15 @@ slots-preserved c =
     let here = c.in-Some.ensures.some in
     let Nothing : Type 0 = number_under c.in-Some.pattern (lies c.slots.slot) ≡ Ok None in (
       one_more lies name c.args.first c.slots.slot c.slots.invariant.0 (λ number is. elim c.match-compare.branch [
-        | in-Refused w ↦ refused_none name (lies c.slots.slot) Range (read ∙ w.in-Refused.ensures.look) number is
-        | in-Other w ↦ (let none : Nothing = ap (number_under c.in-Some.pattern) read ∙ w.in-Other.ensures.look in
+        | in-Refused w ↦ refused_none name (lies c.slots.slot) Range (read ∙ w.in-Refused.ensures.probe) number is
+        | in-Other w ↦ (let none : Nothing = ap (number_under c.in-Some.pattern) read ∙ w.in-Other.ensures.probe in
             no_number number (sym none ∙ ap (λ (n : List ℕ). number_under n (lies c.slots.slot)) here ∙ is))
       ]),
-      (λ clear. elim c.match-compare.branch [
-        | in-Refused w ↦ (let clash : false ≡ true = sym w.clear-is ∙ clear in cc)
+      (λ is_valid. elim c.match-compare.branch [
+        | in-Refused w ↦ (let clash : false ≡ true = sym w.is_valid-is ∙ is_valid in cc)
         | in-Other w ↦
-            one_clear lies c.args.first c.slots.slot (c.slots.invariant.1 (sym w.clear-is ∙ clear))
-            (let none : Nothing = ap (number_under c.in-Some.pattern) read ∙ w.in-Other.ensures.look in under_ok c.in-Some.pattern (lies c.slots.slot) None none)
+            one_valid lies c.args.first c.slots.slot (c.slots.invariant.1 (sym w.is_valid-is ∙ is_valid))
+            (let none : Nothing = ap (number_under c.in-Some.pattern) read ∙ w.in-Other.ensures.probe in under_ok c.in-Some.pattern (lies c.slots.slot) None none)
       ]),
       (let was = c.slots.invariant.2 in let one = c.compare.ensures.one in omega (arith, was, one)),
     )

@@ -6,5 +6,5 @@ use Rattle.dir.proofs.block.find_in_block.Given as goal
 abbrev pub invariant-slots : goal.invariant-slots
 invariant-slots l =
     NoneHas (block_slot l.inodes l.first l.block) l.name l.first l.slot
-    × (l.clear ≡ true → NoneRefused (block_slot l.inodes l.first l.block) l.first l.slot)
+    × (l.is_valid ≡ true → NoneRefused (block_slot l.inodes l.first l.block) l.first l.slot)
     × (l.compared ≤ l.fn.compared + (l.slot - l.first))

@@ -17,8 +17,8 @@ returns-in-Ok-clause-ok c = λ blocks tree file is less.
     (λ slot low high. c.in_ok-block.ensures.ok blocks tree file is less slot
     (let from = c.requires.from in omega (arith, from, low)) high) c.in-Ok.found (rw c.in-Ok.is at c.in_ok-found.ensures.ok)
 
-pub returns-in-Err-clause-pause : goal.returns-in-Err-clause-pause
-returns-in-Err-clause-pause c = λ blocks tree file is less.
+pub returns-in-Err-clause-resumable : goal.returns-in-Err-clause-resumable
+returns-in-Err-clause-resumable c = λ blocks tree file is less.
     no_fault_there c.args.snap.now blocks tree file c.args.inode.now c.args.index c.args.from
     c.in_ok-block.block.now is less (c.in_ok-block.ensures.ok blocks tree file is less) c.requires.from
     (rw c.in-Err.is at c.in_ok-found.ensures.err)

@@ -40,12 +40,12 @@ returns-clause-ok c = λ blocks tree file is slot low less.
     let past = c.indexes-test.false in
     c.indexes.invariant blocks tree file is slot low (omega (arith, less, past))
 
-pub returns-in_err-named-clause-pause : goal.returns-in_err-named-clause-pause
-returns-in_err-named-clause-pause c =
+pub returns-in_err-named-clause-resumable : goal.returns-in_err-named-clause-resumable
+returns-in_err-named-clause-resumable c =
     let spans = c.requires.spans in
     let below = c.indexes-test.true in
     at_err c.from_residual.result c.in_err-named.field-0.0 _ (search rules) (λ blocks tree file is.
-    c.in_err-named.ensures.pause blocks tree file is (omega (arith, spans, below)))
+    c.in_err-named.ensures.resumable blocks tree file is (omega (arith, spans, below)))
 
 pub returns-in_err-named-clause-asks : goal.returns-in_err-named-clause-asks
 returns-in_err-named-clause-asks c =

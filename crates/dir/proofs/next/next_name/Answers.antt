@@ -5,8 +5,8 @@ use Rattle.layout.specs.Parts.{content_in}
 use Rattle.dir.specs.Slots.{IsNext, slot_at}
 use Rattle.dir.proofs.next.next_name.Goals as goal
 
-pub returns-in_default-clause-pause : goal.returns-in_default-clause-pause
-returns-in_default-clause-pause c = λ blocks tree file is.
+pub returns-in_default-clause-resumable : goal.returns-in_default-clause-resumable
+returns-in_default-clause-resumable c = λ blocks tree file is.
     c.in_default.ensures.none c.args.snap.now blocks tree file is
 
 pub returns-then-from-span-clause-ok : goal.returns-then-from-span-clause-ok

@@ -4,13 +4,13 @@ use Rattle.layout.specs.Places.{is_data}
 use Rattle.inode.specs.Asked.{WasReadBlock}
 use Rattle.inode.proofs.InodeThere.{data_of}
 use Rattle.inode.proofs.Needed.{indirect_at, mapped_at}
-use Rattle.dir.proofs.ClearBlocks.{number_is, was_there}
+use Rattle.dir.proofs.ValidBlocks.{number_is, was_there}
 use Rattle.dir.proofs.Passed.{at_err}
 use Rattle.dir.proofs.SlotBlocks.{slot_there, some_there}
 use Rattle.dir.proofs.span.directory_block.Goals as goal
 
-pub returns-then-number-eq0-clause-pause : goal.returns-then-number-eq0-clause-pause
-returns-then-number-eq0-clause-pause c = λ blocks tree file is less.
+pub returns-then-number-eq0-clause-resumable : goal.returns-then-number-eq0-clause-resumable
+returns-then-number-eq0-clause-resumable c = λ blocks tree file is less.
     let none : nat_eq c.in_ok-number.number 0 ≡ true = (let h = c.if-number-eq0.true in search rules) in
     let some = some_there c.args.snap.now blocks tree file c.args.inode.now is c.in_ok-number.number c.args.index less
     (c.in_ok-number.ensures.ok blocks tree file is.has) in
@@ -28,10 +28,10 @@ returns-clause-ok c =
     block.now less (c.in_ok-number.ensures.ok blocks tree file is.has) (there blocks tree is.has.over) low high)
     c.data_block.ensures.ok
 
-pub returns-in_err-number-clause-pause : goal.returns-in_err-number-clause-pause
-returns-in_err-number-clause-pause c =
+pub returns-in_err-number-clause-resumable : goal.returns-in_err-number-clause-resumable
+returns-in_err-number-clause-resumable c =
     at_err c.from_residual.result c.in_err-number.field-0.0 _ (search rules) (λ blocks tree file is less.
-    c.in_err-number.ensures.pause blocks tree file is.has)
+    c.in_err-number.ensures.resumable blocks tree file is.has)
 
 pub returns-in_err-number-clause-asks : goal.returns-in_err-number-clause-asks
 returns-in_err-number-clause-asks c =

@@ -61,12 +61,12 @@ returns-clause-ok c = λ blocks tree file is.
     (λ slot low less. c.indexes.invariant blocks tree file is slot low (omega (arith, less, spans, past)))
     (omega (arith, most, spans))
 
-pub returns-in_err-slot-clause-pause : goal.returns-in_err-slot-clause-pause
-returns-in_err-slot-clause-pause c =
+pub returns-in_err-slot-clause-resumable : goal.returns-in_err-slot-clause-resumable
+returns-in_err-slot-clause-resumable c =
     let spans = c.in-Some.ensures.some in
     let below = c.indexes-test.true in
     at_err c.from_residual.result c.in_err-slot.field-0.0 _ (search rules) (λ blocks tree file is.
-    c.in_err-slot.ensures.pause blocks tree file is (omega (arith, spans, below)))
+    c.in_err-slot.ensures.resumable blocks tree file is (omega (arith, spans, below)))
 
 pub returns-in_err-slot-clause-asks : goal.returns-in_err-slot-clause-asks
 returns-in_err-slot-clause-asks c =

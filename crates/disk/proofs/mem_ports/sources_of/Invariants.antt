@@ -4,5 +4,5 @@ use Rattle.disk.proofs.mem_ports.sources_of.Given as goal
 abbrev pub invariant-loop-made : goal.invariant-loop-made
 invariant-loop-made g l = record {
   count : length l.sources.items ≡ l._made;
-  fresh : All (λ source. source.noted.items ≡ []) l.sources.items;
+  fresh : All (λ source. source.traced.items ≡ []) l.sources.items;
 }

@@ -16,10 +16,10 @@ returns-clause-failure g c =
     (counts_open Super old new c.in-Err.cause c.in-Err.ensures.failure)
 
 pub returns-clause-refused : goal.returns-clause-refused
-returns-clause-refused g c = λ keeps clean.
+returns-clause-refused g c = λ preserves clean.
     let old : Device = g.D.CrashDisk.device c.args.disk.now in
     let new : Device = g.D.CrashDisk.device c.read_super.new.disk in
     subst (IsRefusal (IsNotGood old.size (image_of old))) (sym c.of_open.ensures)
     (refused_first (g.D.CrashDisk.keeps_model c.read_super.new.disk) c.in-Err.cause old new
-    c.in-Err.ensures.refused keeps
+    c.in-Err.ensures.refused preserves
     clean)

@@ -19,16 +19,16 @@ returns-in-Err-clause-failure g c =
     c.in-Err.ensures.failure)
 
 pub returns-in-Err-clause-refused : goal.returns-in-Err-clause-refused
-returns-in-Err-clause-refused g c = λ keeps clean.
+returns-in-Err-clause-refused g c = λ preserves clean.
     let old : Device = g.D.CrashDisk.device c.args.disk.now in
     subst (IsRefusal (IsNotGood old.size (image_of old))) (sym c.of_log.ensures)
-    (no_log old.size (image_of old) c.in-Err.cause (c.in-Err.ensures.log keeps clean))
+    (no_log old.size (image_of old) c.in-Err.cause (c.in-Err.ensures.log preserves clean))
 
 pub returns-in-Ok-clause-log : goal.returns-in-Ok-clause-log
-returns-in-Ok-clause-log g c = λ keeps clean. c.new.ensures ∙ (c.in-Ok.ensures.log keeps clean).0
+returns-in-Ok-clause-log g c = λ preserves clean. c.new.ensures ∙ (c.in-Ok.ensures.log preserves clean).0
 
 pub returns-in-Ok-clause-range : goal.returns-in-Ok-clause-range
-returns-in-Ok-clause-range g c = λ keeps clean. (c.in-Ok.ensures.log keeps clean).1
+returns-in-Ok-clause-range g c = λ preserves clean. (c.in-Ok.ensures.log preserves clean).1
 
 pub returns-in-Ok-clause-homes : goal.returns-in-Ok-clause-homes
-returns-in-Ok-clause-homes g c = λ keeps clean. (c.in-Ok.ensures.log keeps clean).2
+returns-in-Ok-clause-homes g c = λ preserves clean. (c.in-Ok.ensures.log preserves clean).2

@@ -3,7 +3,7 @@ use Rattle.inode.specs.Over.{all_bytes}
 use Rattle.base.specs.declared.TheConstants.{BLOCK_BYTES}
 use Rattle.inode.specs.Asked.{IsNeededBetween}
 use Rattle.inode.proofs.Needed.{may_between, may_indirect_at, may_mapped_at}
-use Rattle.inode.proofs.Stops.{at_err, stop_may}
+use Rattle.inode.proofs.Stops.{at_err, suspend_may}
 use Rattle.inode.proofs.Pieces.{grown, next_piece}
 use Rattle.inode.proofs.bytes.bytes_between.Goals as goal
 
@@ -38,7 +38,7 @@ returns-clause-ok c = λ blocks tree file has.
 pub returns-in_err-ask_between-clause-asks : goal.returns-in_err-ask_between-clause-asks
 returns-in_err-ask_between-clause-asks c =
     at_err c.from_residual.result c.in_err-ask_between.field-0.0 _ (search rules)
-    (stop_may (IsNeededBetween c.args.snap.now c.args.inode.now c.args.start c.args.end)
+    (suspend_may (IsNeededBetween c.args.snap.now c.args.inode.now c.args.start c.args.end)
     (IsNeededBetween c.args.snap.now c.args.inode.now c.args.start c.args.end) (λ addr needed. needed)
     c.in_err-ask_between.field-0.0 c.in_err-ask_between.ensures.asks)
 

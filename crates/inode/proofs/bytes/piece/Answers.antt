@@ -5,8 +5,8 @@ use Rattle.inode.proofs.Needed.{may_within}
 use Rattle.inode.proofs.Pieces.{all_that_is_left, as_many_as_asked, regular_small}
 use Rattle.inode.proofs.bytes.piece.Goals as goal
 
-pub returns-then-inode-gt-LARGEST_FILE-clause-pause : goal.returns-then-inode-gt-LARGEST_FILE-clause-pause
-returns-then-inode-gt-LARGEST_FILE-clause-pause c = λ blocks tree file has kind.
+pub returns-then-inode-gt-LARGEST_FILE-clause-resumable : goal.returns-then-inode-gt-LARGEST_FILE-clause-resumable
+returns-then-inode-gt-LARGEST_FILE-clause-resumable c = λ blocks tree file has kind.
     let small = regular_small c.args.snap.now blocks tree file c.args.inode.now has kind in
     let large = c.if-inode-gt-LARGEST_FILE.true in
     absurd (omega (arith, small, large))
@@ -21,10 +21,10 @@ returns-then-rest-count-clause-ok c =
     (all_bytes c.args.snap.now.geometry blocks c.args.inode.now) (omega (arith, inside)) (omega (arith, few)))
     c.bytes_between.ensures.ok
 
-pub returns-then-rest-count-clause-pause : goal.returns-then-rest-count-clause-pause
-returns-then-rest-count-clause-pause c =
-    IfErr-weaker c.bytes_between.result _ _ (λ stop pause blocks tree file has kind. pause blocks tree file has)
-    c.bytes_between.ensures.pause
+pub returns-then-rest-count-clause-resumable : goal.returns-then-rest-count-clause-resumable
+returns-then-rest-count-clause-resumable c =
+    IfErr-weaker c.bytes_between.result _ _ (λ suspend resumable blocks tree file has kind. resumable blocks tree file has)
+    c.bytes_between.ensures.resumable
 
 pub returns-else-rest-count-clause-ok : goal.returns-else-rest-count-clause-ok
 returns-else-rest-count-clause-ok c =
@@ -36,11 +36,11 @@ returns-else-rest-count-clause-ok c =
     (all_bytes c.args.snap.now.geometry blocks c.args.inode.now) (omega (arith, inside)) (omega (arith, many)))
     c.bytes_between-else-rest-count.ensures.ok
 
-pub returns-else-rest-count-clause-pause : goal.returns-else-rest-count-clause-pause
-returns-else-rest-count-clause-pause c =
+pub returns-else-rest-count-clause-resumable : goal.returns-else-rest-count-clause-resumable
+returns-else-rest-count-clause-resumable c =
     IfErr-weaker c.bytes_between-else-rest-count.result _ _
-    (λ stop pause blocks tree file has kind. pause blocks tree file has)
-    c.bytes_between-else-rest-count.ensures.pause
+    (λ suspend resumable blocks tree file has kind. resumable blocks tree file has)
+    c.bytes_between-else-rest-count.ensures.resumable
 
 pub returns-then-rest-count-clause-asks : goal.returns-then-rest-count-clause-asks
 returns-then-rest-count-clause-asks c =

@@ -1,6 +1,6 @@
 use Rattle.std.proofs.Common.{rules}
 use Rattle.std.proofs.lemmas.Result.{IfErr-weaker, IfOk-weaker}
-use Rattle.inode.proofs.HeldThere.{is_inode_of, may_stop, none_past, pauses}
+use Rattle.inode.proofs.HeldThere.{is_inode_of, may_suspend, none_past, resumes}
 use Rattle.inode.proofs.Stops.{both_err}
 use Rattle.inode.proofs.inodes.held.Goals as goal
 
@@ -17,10 +17,10 @@ returns-clause-ok c =
 pub returns-clause-err : goal.returns-clause-err
 returns-clause-err c =
     both_err c.inode_of.result _ _ _ (λ why new asked.
-    may_stop c.args.snap.now c.args.number why (search rules) new asked) c.inode_of.ensures.err
+    may_suspend c.args.snap.now c.args.number why (search rules) new asked) c.inode_of.ensures.err
     c.inode_of.ensures.asks
 
-pub returns-clause-pause : goal.returns-clause-pause
-returns-clause-pause c =
+pub returns-clause-resumable : goal.returns-clause-resumable
+returns-clause-resumable c =
     IfErr-weaker c.inode_of.result _ _ (λ why none blocks tree over.
-    pauses c.args.snap.now why blocks tree none over) c.inode_of.ensures.io
+    resumes c.args.snap.now why blocks tree none over) c.inode_of.ensures.io

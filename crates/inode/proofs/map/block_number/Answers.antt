@@ -3,8 +3,8 @@ use Rattle.layout.specs.InodeForm.{is_data_block_or_none}
 use Rattle.inode.proofs.Placed.{placed_at}
 use Rattle.inode.proofs.map.block_number.Goals as goal
 
-pub returns-else-is_data_or_none-clause-pause : goal.returns-else-is_data_or_none-clause-pause
-returns-else-is_data_or_none-clause-pause c = λ blocks tree file has.
+pub returns-else-is_data_or_none-clause-resumable : goal.returns-else-is_data_or_none-clause-resumable
+returns-else-is_data_or_none-clause-resumable c = λ blocks tree file has.
     let test = is_data_block_or_none c.args.snap.now.geometry in
     let isnt : test c.in-Ok.number ≡ false = sym c.is_data_or_none.ensures ∙ c.if-is_data_or_none.false in
     let clash : true ≡ false =

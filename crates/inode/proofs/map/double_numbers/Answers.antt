@@ -1,5 +1,5 @@
 use Rattle.std.proofs.lemmas.Result.{IfErr-weaker, IfOk-weaker}
-use Rattle.inode.proofs.Placed.{double_far_placed, double_placed}
+use Rattle.inode.proofs.Placed.{double_part_placed, double_placed}
 use Rattle.inode.proofs.map.double_numbers.Goals as goal
 
 pub returns-clause-ok : goal.returns-clause-ok
@@ -7,8 +7,8 @@ returns-clause-ok c =
     IfOk-weaker c.pointer_numbers.result _ _ (λ numbers is blocks tree file has. is blocks tree has.over)
     c.pointer_numbers.ensures.ok
 
-pub returns-clause-pause : goal.returns-clause-pause
-returns-clause-pause c =
-    IfErr-weaker c.pointer_numbers.result _ _ (λ stop pause blocks tree file has.
-    pause blocks tree has.over (double_placed c.args.snap.now blocks tree file c.args.inode.now has)
-    (double_far_placed c.args.snap.now blocks tree file c.args.inode.now has)) c.pointer_numbers.ensures.pause
+pub returns-clause-resumable : goal.returns-clause-resumable
+returns-clause-resumable c =
+    IfErr-weaker c.pointer_numbers.result _ _ (λ suspend resumable blocks tree file has.
+    resumable blocks tree has.over (double_placed c.args.snap.now blocks tree file c.args.inode.now has)
+    (double_part_placed c.args.snap.now blocks tree file c.args.inode.now has)) c.pointer_numbers.ensures.resumable

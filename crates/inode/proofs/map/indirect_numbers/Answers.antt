@@ -1,5 +1,5 @@
 use Rattle.std.proofs.lemmas.Result.{IfErr-weaker, IfOk-weaker}
-use Rattle.inode.proofs.HeldThere.{far_placed}
+use Rattle.inode.proofs.HeldThere.{indirect_part_placed}
 use Rattle.inode.proofs.Placed.{indirect_placed}
 use Rattle.inode.proofs.map.indirect_numbers.Goals as goal
 
@@ -8,8 +8,8 @@ returns-clause-ok c =
     IfOk-weaker c.pointer_numbers.result _ _ (λ numbers is blocks tree file has. is blocks tree has.over)
     c.pointer_numbers.ensures.ok
 
-pub returns-clause-pause : goal.returns-clause-pause
-returns-clause-pause c =
-    IfErr-weaker c.pointer_numbers.result _ _ (λ stop pause blocks tree file has.
-    pause blocks tree has.over (indirect_placed c.args.snap.now blocks tree file c.args.inode.now has)
-    (far_placed c.args.snap.now blocks tree file c.args.inode.now has)) c.pointer_numbers.ensures.pause
+pub returns-clause-resumable : goal.returns-clause-resumable
+returns-clause-resumable c =
+    IfErr-weaker c.pointer_numbers.result _ _ (λ suspend resumable blocks tree file has.
+    resumable blocks tree has.over (indirect_placed c.args.snap.now blocks tree file c.args.inode.now has)
+    (indirect_part_placed c.args.snap.now blocks tree file c.args.inode.now has)) c.pointer_numbers.ensures.resumable

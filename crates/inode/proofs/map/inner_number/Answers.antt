@@ -4,10 +4,10 @@ use Rattle.inode.proofs.map.inner_number.Goals as goal
 
 pub returns-clause-ok : goal.returns-clause-ok
 returns-clause-ok c =
-    IfOk-weaker c.far_number.result _ _ (λ number is blocks tree file has. is blocks tree has.over)
-    c.far_number.ensures.ok
+    IfOk-weaker c.pointer_number.result _ _ (λ number is blocks tree file has. is blocks tree has.over)
+    c.pointer_number.ensures.ok
 
-pub returns-clause-pause : goal.returns-clause-pause
-returns-clause-pause c =
-    IfErr-weaker c.far_number.result _ _ (λ stop pause blocks tree file has.
-    pause (double_placed c.args.snap.now blocks tree file c.args.inode.now has)) c.far_number.ensures.pause
+pub returns-clause-resumable : goal.returns-clause-resumable
+returns-clause-resumable c =
+    IfErr-weaker c.pointer_number.result _ _ (λ suspend resumable blocks tree file has.
+    resumable (double_placed c.args.snap.now blocks tree file c.args.inode.now has)) c.pointer_number.ensures.resumable

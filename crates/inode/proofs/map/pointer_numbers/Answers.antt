@@ -2,7 +2,7 @@ use Rattle.std.proofs.Common.{rules, ◌≡◌, refl, replicate}
 use Rattle.base.specs.declared.TheConstants.{INDIRECT_INDEXES}
 use Rattle.layout.specs.InodeForm.{is_data_block_or_none}
 use Rattle.layout.specs.Parts.{content_in}
-use Rattle.inode.specs.Asked.AreFarNumbers.{spelled, zeros}
+use Rattle.inode.specs.Asked.ArePointerNumbers.{spelled, zeros}
 use Rattle.inode.proofs.HeldThere.{no_data, not_placed}
 use Rattle.inode.proofs.PointersThere.{spelled_in, zeros_in, zeros_pass}
 use Rattle.inode.proofs.map.pointer_numbers.Goals as goal
@@ -33,13 +33,13 @@ returns-then-pointer-eq0-clause-placed c =
     zeros_pass c.args.pointer c.in_ok-zeros.zeros.items (is_data_block_or_none c.args.snap.now.geometry)
     (let h = c.if-pointer-eq0.true in search rules) are refl
 
-pub returns-then-not-is_data-clause-pause : goal.returns-then-not-is_data-clause-pause
-returns-then-not-is_data-clause-pause c = λ blocks tree over placed far.
+pub returns-then-not-is_data-clause-resumable : goal.returns-then-not-is_data-clause-resumable
+returns-then-not-is_data-clause-resumable c = λ blocks tree over placed indirect_part.
     no_data c.args.snap.now.geometry c.args.pointer (let h = c.if-pointer-eq0.false in search rules)
     (search rules) placed
 
-pub returns-in-Err-clause-pause : goal.returns-in-Err-clause-pause
-returns-in-Err-clause-pause c = λ blocks tree over placed far.
+pub returns-in-Err-clause-resumable : goal.returns-in-Err-clause-resumable
+returns-in-Err-clause-resumable c = λ blocks tree over placed indirect_part.
     not_placed c.args.snap.now.geometry blocks c.args.pointer c.in_ok-bytes.bytes.now
     (let h = c.if-pointer-eq0.false in search rules) (c.in_ok-bytes.ensures.ok blocks tree over)
-    (rw c.in-Err.is at c.in_ok-read.ensures.refused).1 far
+    (rw c.in-Err.is at c.in_ok-read.ensures.refused).1 indirect_part

@@ -8,18 +8,18 @@ use Rattle.layout.specs.Fields.{four_bytes}
 use Rattle.layout.specs.declared.inode.Inode.{Inode}
 use Rattle.layout.specs.Parts.{content_in, put, with_bytes, with_inode}
 use Rattle.inode.specs.declared.snap.Snap.{Snap}
-use Rattle.inode.specs.Over.{IsOver, far_at}
-use Rattle.inode.specs.Drafts.Drafted.{Shows, image_of}
-use Rattle.inode.proofs.DraftsLemmas.PutThere.{over_of}
+use Rattle.inode.specs.Over.{IsOver, pointer_number_at}
+use Rattle.inode.specs.WriteSets.WriteSetContents.{Shows, image_of}
+use Rattle.inode.proofs.WriteSetsLemmas.PutThere.{over_of}
 use Rattle.bitmap.specs.NewBlock.{HasTaken}
 use Rattle.bitmap.proofs.NewBlocks.{none_taken}
 use Rattle.inode_data.specs.Filling.{Fills, mapping}
-use Rattle.inode_data.specs.Inner.{inner_of, place_of}
-use Rattle.inode_data.specs.Spent.{unspent}
+use Rattle.inode_data.specs.Inner.{inner_of, index_in_inner}
+use Rattle.inode_data.specs.CleanCounts.{clean_count}
 use Rattle.inode_data.proofs.DoubleCases.{block_named_first_inner}
-use Rattle.inode_data.proofs.FarNumbers.{named_count}
+use Rattle.inode_data.proofs.PointerNumbers.{named_count}
 use Rattle.inode_data.proofs.MappedFile.{as_mapped}
-use Rattle.inode_data.proofs.Once.{nothing_spent}
+use Rattle.inode_data.proofs.Once.{nothing_dirty}
 use Rattle.inode_data.proofs.PieceWritten.{long_content, not_zero}
 use Rattle.inode_data.proofs.Stored.{content_are, named_are, stored_double, zeros_are}
 use Rattle.inode_data.proofs.Whole.{moved_piece}
@@ -27,7 +27,7 @@ use Rattle.inode_data.proofs.doubles.map_first_inner.Goals as goal
 
 pub returns-in-Ok-store_double-clause-ok : goal.returns-in-Ok-store_double-clause-ok
 returns-in-Ok-store_double-clause-ok c =
-    let g = c.args.draft.now.there.geometry in
+    let g = c.args.write_set.now.there.geometry in
     let n = c.args.number in
     let inode = c.args.inode.now in
     let double = inode.double in
@@ -37,18 +37,18 @@ returns-in-Ok-store_double-clause-ok c =
     let numbers = c.in_ok-numbers-in-Ok-Some-take_block.numbers.items in
     let inners = c.in_ok-inners-in-Ok-Some-take_block.inners.items in
     let size = c.args.size in
-    let geometry : c.take_block-2.new.draft.there.geometry ≡ g =
+    let geometry : c.take_block-2.new.write_set.there.geometry ≡ g =
     c.take_block-2.ensures.geometry ∙ c.take_block.ensures.geometry in
-    λ done blocks tree offset piece draft write at none no_inner.
-    let base = image_of blocks c.args.draft.now in
-    let first = image_of blocks c.take_block.new.draft in
-    let middle = image_of blocks c.take_block-2.new.draft in
+    λ done blocks tree offset piece write_set write at none no_inner.
+    let base = image_of blocks c.args.write_set.now in
+    let first = image_of blocks c.take_block.new.write_set in
+    let middle = image_of blocks c.take_block-2.new.write_set in
     let index = offset / BLOCK_BYTES in
     let new = mapping inode size inode.direct inode.indirect double in
     let one : HasTaken g base tree (b ∷ []) first =
     rw c.in-Ok-Some.field-0-is at
-    (c.in-Ok-Some.ensures.ok blocks base tree [] draft.shows (none_taken g base tree draft.holds)) in
-    let shown = c.in-Ok-Some.ensures.shows blocks draft.shows in
+    (c.in-Ok-Some.ensures.ok blocks base tree [] write_set.shows (none_taken g base tree write_set.holds)) in
+    let shown = c.in-Ok-Some.ensures.shows blocks write_set.shows in
     let taken : HasTaken g base tree (inner ∷ b ∷ []) middle =
     subst (λ (s : Geometry). HasTaken s base tree (inner ∷ b ∷ []) middle) c.take_block.ensures.geometry
     (rw c.in-Ok-Some-take_block.field-0-is at
@@ -59,45 +59,45 @@ returns-in-Ok-store_double-clause-ok c =
     subst (λ (s : Snap). c.in-Ok.block.now ≡ content_in s.geometry base double) c.there.ensures.there
     (c.in-Ok.ensures.ok base tree
     (subst (λ (s : Snap). IsOver s base tree) (sym c.there.ensures.there)
-    (over_of c.args.draft.now blocks tree draft))) in
+    (over_of c.args.write_set.now blocks tree write_set))) in
     let old : c.deref.result.now ≡ content_in g base double = c.deref.ensures.value ∙ c.in_ok-old-in-Ok.ensures.items
     ∙ was in
-    let place : 4 * c.place_of.result ≡ 4 * place_of index = ap (λ k. 4 * k) (c.place_of.ensures.is ∙ ap place_of at) in
+    let offsets_agree : 4 * c.index_in_inner.result ≡ 4 * index_in_inner index = ap (λ k. 4 * k) (c.index_in_inner.ensures.is ∙ ap index_in_inner at) in
     let row : 4 * c.inner_of.result ≡ 4 * inner_of index = ap (λ k. 4 * k) (c.inner_of.ensures.is ∙ ap inner_of at) in
-    let named : numbers ≡ spliced (replicate BLOCK_BYTES 0) (4 * place_of index) (four_bytes b) =
-    c.in_ok-numbers-in-Ok-Some-take_block.ensures.made ∙ (λ i. spliced (replicate BLOCK_BYTES 0) (place i) (four_bytes
+    let named : numbers ≡ spliced (replicate BLOCK_BYTES 0) (4 * index_in_inner index) (four_bytes b) =
+    c.in_ok-numbers-in-Ok-Some-take_block.ensures.made ∙ (λ i. spliced (replicate BLOCK_BYTES 0) (offsets_agree i) (four_bytes
     b)) in
-    let led : inners ≡ spliced (content_in g base double) (4 * inner_of index) (four_bytes inner) =
+    let repointed : inners ≡ spliced (content_in g base double) (4 * inner_of index) (four_bytes inner) =
     c.in_ok-inners-in-Ok-Some-take_block.ensures.made ∙ (λ i. spliced (old i) (row i) (four_bytes inner)) in
     let low : inner_of index < INDIRECT_INDEXES =
     (let past = c.requires.past in let within = c.requires.within in omega (arith, at, past, within)) in
     let image = with_bytes (with_bytes (with_bytes middle double 0 inners) inner 0 numbers) b 0 bytes in
-    let written : with_inode c.take_block-2.new.draft.there.geometry image n c.sized-same.result
+    let written : with_inode c.take_block-2.new.write_set.there.geometry image n c.sized-same.result
     ≡ with_inode g image n new =
     λ i. with_inode (geometry i) image n (c.sized-same.ensures i) in
-    moved_piece c.args.draft.now c.store_double.new.draft blocks (with_inode g image n new) tree n inode new
+    moved_piece c.args.write_set.now c.store_double.new.write_set blocks (with_inode g image n new) tree n inode new
     c.sized-same.result offset piece
     (c.store_double.ensures.geometry ∙ geometry) (c.in-Ok-store_double.ensures.image blocks ∙ written)
-    (subst (Shows c.store_double.new.draft) written (c.in-Ok-store_double.ensures.shows middle seen))
+    (subst (Shows c.store_double.new.write_set) written (c.in-Ok-store_double.ensures.shows middle seen))
     write.has.less write.has.regular c.sized-same.ensures
     (stored_double g base tree n inode offset piece bytes size write (inner ∷ b ∷ []) middle taken
     (λ q low. seen.long q (subst (λ (s : Geometry). q < s.blocks) (sym geometry) low))
     c.requires.len b inode.direct inode.indirect double
     double inners
-    (subst (λ (l : List ℕ). AreBytes l) (sym led)
+    (subst (λ (l : List ℕ). AreBytes l) (sym repointed)
     (named_are (content_in g base double) (4 * inner_of index) inner
-    (content_are g base tree draft.holds double c.requires.double)))
-    (ap (λ (l : List ℕ). length l) led
+    (content_are g base tree write_set.holds double c.requires.double)))
+    (ap (λ (l : List ℕ). length l) repointed
     ∙ named_count (content_in g base double) (inner_of index) inner (long_content g base tree n inode write.has double)
     low)
     c.requires.double
     inner numbers
     (subst (λ (l : List ℕ). AreBytes l) (sym named)
-    (named_are (replicate BLOCK_BYTES 0) (4 * place_of index) b zeros_are))
-    (ap (λ (l : List ℕ). length l) named ∙ named_count (replicate BLOCK_BYTES 0) (place_of index) b refl (omega arith))
+    (named_are (replicate BLOCK_BYTES 0) (4 * index_in_inner index) b zeros_are))
+    (ap (λ (l : List ℕ). length l) named ∙ named_count (replicate BLOCK_BYTES 0) (index_in_inner index) b refl (omega arith))
     taken.were_free.0.lies
     (subst (λ l. Fills g base inode offset piece b inode.direct inode.indirect double
-    (put (put (put (content_in g base) double l) inner numbers) b bytes) (inner ∷ b ∷ [])) (sym led)
+    (put (put (put (content_in g base) double l) inner numbers) b bytes) (inner ∷ b ∷ [])) (sym repointed)
     (subst (λ l. Fills g base inode offset piece b inode.direct inode.indirect double
     (put (put (put (content_in g base) double (spliced (content_in g base double) (4 * inner_of index) (four_bytes
     inner)))
@@ -105,133 +105,133 @@ returns-in-Ok-store_double-clause-ok c =
     (block_named_first_inner g base tree n inode (as_mapped g base tree n inode write.has) offset piece write.fits b
     bytes
     taken.were_free.1.0 none write.bytes_are (subst (λ k. FIRST_DOUBLE_INDEX ≤ k) at c.requires.past)
-    (subst (λ k. nat_eq (far_at (content_in g base) double (inner_of k)) 0 ≡ true) at no_inner) inner
+    (subst (λ k. nat_eq (pointer_number_at (content_in g base) double (inner_of k)) 0 ≡ true) at no_inner) inner
     taken.were_free.0 (not_zero g double c.requires.double) taken.once))))
 
-pub returns-in-Ok-None-clause-room : goal.returns-in-Ok-None-clause-room
-returns-in-Ok-None-clause-room c = λ blocks tree draft room.
-    let g = c.args.draft.now.there.geometry in
-    let base = image_of blocks c.args.draft.now in
+pub returns-in-Ok-None-clause-has_space : goal.returns-in-Ok-None-clause-has_space
+returns-in-Ok-None-clause-has_space c = λ blocks tree write_set has_space.
+    let g = c.args.write_set.now.there.geometry in
+    let base = image_of blocks c.args.write_set.now in
     let full = rw c.in-Ok-None.field-0-is at
-    (c.in-Ok-None.ensures.ok blocks base tree [] draft.shows (none_taken g base tree draft.holds)) in
-    absurd (omega (arith, full, room))
+    (c.in-Ok-None.ensures.ok blocks base tree [] write_set.shows (none_taken g base tree write_set.holds)) in
+    absurd (omega (arith, full, has_space))
 
-pub returns-in-Ok-None-take_block-clause-room : goal.returns-in-Ok-None-take_block-clause-room
-returns-in-Ok-None-take_block-clause-room c = λ blocks tree draft room.
-    let g = c.args.draft.now.there.geometry in
+pub returns-in-Ok-None-take_block-clause-has_space : goal.returns-in-Ok-None-take_block-clause-has_space
+returns-in-Ok-None-take_block-clause-has_space c = λ blocks tree write_set has_space.
+    let g = c.args.write_set.now.there.geometry in
     let b = c.in-Ok-Some.block in
-    let base = image_of blocks c.args.draft.now in
-    let first = image_of blocks c.take_block.new.draft in
+    let base = image_of blocks c.args.write_set.now in
+    let first = image_of blocks c.take_block.new.write_set in
     let one : HasTaken g base tree (b ∷ []) first =
     rw c.in-Ok-Some.field-0-is at
-    (c.in-Ok-Some.ensures.ok blocks base tree [] draft.shows (none_taken g base tree draft.holds)) in
+    (c.in-Ok-Some.ensures.ok blocks base tree [] write_set.shows (none_taken g base tree write_set.holds)) in
     let full = rw c.in-Ok-None-take_block.field-0-is at
-    (c.in-Ok-None-take_block.ensures.ok blocks base tree (b ∷ []) (c.in-Ok-Some.ensures.shows blocks draft.shows)
+    (c.in-Ok-None-take_block.ensures.ok blocks base tree (b ∷ []) (c.in-Ok-Some.ensures.shows blocks write_set.shows)
     (subst (λ (s : Geometry). HasTaken s base tree (b ∷ []) first) (sym c.take_block.ensures.geometry) one)) in
-    absurd (omega (arith, full, room))
+    absurd (omega (arith, full, has_space))
 
 pub returns-in-Ok-store_double-clause-twice : goal.returns-in-Ok-store_double-clause-twice
 returns-in-Ok-store_double-clause-twice c =
-    let far = c.args.inode.now.indirect in
+    let indirect_block = c.args.inode.now.indirect in
     let double = c.args.inode.now.double in
-    let first = nothing_spent c.args.draft.now c.take_block.new.draft c.args.number far double
-    c.take_block.ensures.geometry c.take_block.ensures.stays c.take_block.ensures.spent in
-    let second = nothing_spent c.take_block.new.draft c.take_block-2.new.draft c.args.number far double
-    c.take_block-2.ensures.geometry c.take_block-2.ensures.stays c.take_block-2.ensures.spent in
-    let once = c.store_double.ensures.once far in
+    let first = nothing_dirty c.args.write_set.now c.take_block.new.write_set c.args.number indirect_block double
+    c.take_block.ensures.geometry c.take_block.ensures.stays c.take_block.ensures.dirty_count in
+    let second = nothing_dirty c.take_block.new.write_set c.take_block-2.new.write_set c.args.number indirect_block double
+    c.take_block-2.ensures.geometry c.take_block-2.ensures.stays c.take_block-2.ensures.dirty_count in
+    let once = c.store_double.ensures.once indirect_block in
     let same : ◌≡◌ {A = ℕ}
-    (unspent c.store_double.new.draft c.args.number c.sized-same.result.indirect c.sized-same.result.double)
-    (unspent c.store_double.new.draft c.args.number far double) =
-    ap (λ (one : Inode). unspent c.store_double.new.draft c.args.number one.indirect one.double) c.sized-same.ensures in
+    (clean_count c.store_double.new.write_set c.args.number c.sized-same.result.indirect c.sized-same.result.double)
+    (clean_count c.store_double.new.write_set c.args.number indirect_block double) =
+    ap (λ (one : Inode). clean_count c.store_double.new.write_set c.args.number one.indirect one.double) c.sized-same.ensures in
     omega (arith, first, second, once, same)
 
 pub returns-in-Ok-Some-take_block-clause-twice : goal.returns-in-Ok-Some-take_block-clause-twice
 returns-in-Ok-Some-take_block-clause-twice c =
-    let far = c.args.inode.now.indirect in
+    let indirect_block = c.args.inode.now.indirect in
     let double = c.args.inode.now.double in
-    let first = nothing_spent c.args.draft.now c.take_block.new.draft c.args.number far double
-    c.take_block.ensures.geometry c.take_block.ensures.stays c.take_block.ensures.spent in
-    let second = nothing_spent c.take_block.new.draft c.take_block-2.new.draft c.args.number far double
-    c.take_block-2.ensures.geometry c.take_block-2.ensures.stays c.take_block-2.ensures.spent in
-    let once = c.store_double.ensures.once far in
+    let first = nothing_dirty c.args.write_set.now c.take_block.new.write_set c.args.number indirect_block double
+    c.take_block.ensures.geometry c.take_block.ensures.stays c.take_block.ensures.dirty_count in
+    let second = nothing_dirty c.take_block.new.write_set c.take_block-2.new.write_set c.args.number indirect_block double
+    c.take_block-2.ensures.geometry c.take_block-2.ensures.stays c.take_block-2.ensures.dirty_count in
+    let once = c.store_double.ensures.once indirect_block in
     let same : ◌≡◌ {A = ℕ}
-    (unspent c.store_double.new.draft c.args.number c.sized-same.result.indirect c.sized-same.result.double)
-    (unspent c.store_double.new.draft c.args.number far double) =
-    ap (λ (one : Inode). unspent c.store_double.new.draft c.args.number one.indirect one.double) c.sized-same.ensures in
+    (clean_count c.store_double.new.write_set c.args.number c.sized-same.result.indirect c.sized-same.result.double)
+    (clean_count c.store_double.new.write_set c.args.number indirect_block double) =
+    ap (λ (one : Inode). clean_count c.store_double.new.write_set c.args.number one.indirect one.double) c.sized-same.ensures in
     omega (arith, first, second, once, same)
 
 pub returns-in-Ok-None-clause-twice : goal.returns-in-Ok-None-clause-twice
 returns-in-Ok-None-clause-twice c =
-    let far = c.args.inode.now.indirect in
+    let indirect_block = c.args.inode.now.indirect in
     let double = c.args.inode.now.double in
-    let first = nothing_spent c.args.draft.now c.take_block.new.draft c.args.number far double
-    c.take_block.ensures.geometry c.take_block.ensures.stays c.take_block.ensures.spent in
+    let first = nothing_dirty c.args.write_set.now c.take_block.new.write_set c.args.number indirect_block double
+    c.take_block.ensures.geometry c.take_block.ensures.stays c.take_block.ensures.dirty_count in
     omega (arith, first)
 
 pub returns-in-Err-take_block-clause-twice : goal.returns-in-Err-take_block-clause-twice
 returns-in-Err-take_block-clause-twice c =
-    let far = c.args.inode.now.indirect in
+    let indirect_block = c.args.inode.now.indirect in
     let double = c.args.inode.now.double in
-    let first = nothing_spent c.args.draft.now c.take_block.new.draft c.args.number far double
-    c.take_block.ensures.geometry c.take_block.ensures.stays c.take_block.ensures.spent in
+    let first = nothing_dirty c.args.write_set.now c.take_block.new.write_set c.args.number indirect_block double
+    c.take_block.ensures.geometry c.take_block.ensures.stays c.take_block.ensures.dirty_count in
     omega (arith, first)
 
 pub returns-in-Ok-None-take_block-clause-twice : goal.returns-in-Ok-None-take_block-clause-twice
 returns-in-Ok-None-take_block-clause-twice c =
-    let far = c.args.inode.now.indirect in
+    let indirect_block = c.args.inode.now.indirect in
     let double = c.args.inode.now.double in
-    let first = nothing_spent c.args.draft.now c.take_block.new.draft c.args.number far double
-    c.take_block.ensures.geometry c.take_block.ensures.stays c.take_block.ensures.spent in
-    let second = nothing_spent c.take_block.new.draft c.take_block-2.new.draft c.args.number far double
-    c.take_block-2.ensures.geometry c.take_block-2.ensures.stays c.take_block-2.ensures.spent in
+    let first = nothing_dirty c.args.write_set.now c.take_block.new.write_set c.args.number indirect_block double
+    c.take_block.ensures.geometry c.take_block.ensures.stays c.take_block.ensures.dirty_count in
+    let second = nothing_dirty c.take_block.new.write_set c.take_block-2.new.write_set c.args.number indirect_block double
+    c.take_block-2.ensures.geometry c.take_block-2.ensures.stays c.take_block-2.ensures.dirty_count in
     omega (arith, first, second)
 
 pub returns-clause-twice : goal.returns-clause-twice
 returns-clause-twice c =
-    let far = c.args.inode.now.indirect in
+    let indirect_block = c.args.inode.now.indirect in
     let double = c.args.inode.now.double in
-    let first = nothing_spent c.args.draft.now c.take_block.new.draft c.args.number far double
-    c.take_block.ensures.geometry c.take_block.ensures.stays c.take_block.ensures.spent in
-    let second = nothing_spent c.take_block.new.draft c.take_block-2.new.draft c.args.number far double
-    c.take_block-2.ensures.geometry c.take_block-2.ensures.stays c.take_block-2.ensures.spent in
+    let first = nothing_dirty c.args.write_set.now c.take_block.new.write_set c.args.number indirect_block double
+    c.take_block.ensures.geometry c.take_block.ensures.stays c.take_block.ensures.dirty_count in
+    let second = nothing_dirty c.take_block.new.write_set c.take_block-2.new.write_set c.args.number indirect_block double
+    c.take_block-2.ensures.geometry c.take_block-2.ensures.stays c.take_block-2.ensures.dirty_count in
     omega (arith, first, second)
 
 pub returns-in_err-numbers-in-Ok-Some-take_block-clause-twice :
     goal.returns-in_err-numbers-in-Ok-Some-take_block-clause-twice
 returns-in_err-numbers-in-Ok-Some-take_block-clause-twice c =
-    let far = c.args.inode.now.indirect in
+    let indirect_block = c.args.inode.now.indirect in
     let double = c.args.inode.now.double in
-    let first = nothing_spent c.args.draft.now c.take_block.new.draft c.args.number far double
-    c.take_block.ensures.geometry c.take_block.ensures.stays c.take_block.ensures.spent in
-    let second = nothing_spent c.take_block.new.draft c.take_block-2.new.draft c.args.number far double
-    c.take_block-2.ensures.geometry c.take_block-2.ensures.stays c.take_block-2.ensures.spent in
+    let first = nothing_dirty c.args.write_set.now c.take_block.new.write_set c.args.number indirect_block double
+    c.take_block.ensures.geometry c.take_block.ensures.stays c.take_block.ensures.dirty_count in
+    let second = nothing_dirty c.take_block.new.write_set c.take_block-2.new.write_set c.args.number indirect_block double
+    c.take_block-2.ensures.geometry c.take_block-2.ensures.stays c.take_block-2.ensures.dirty_count in
     omega (arith, first, second)
 
 pub returns-in_err-inners-in-Ok-Some-take_block-clause-twice :
     goal.returns-in_err-inners-in-Ok-Some-take_block-clause-twice
 returns-in_err-inners-in-Ok-Some-take_block-clause-twice c =
-    let far = c.args.inode.now.indirect in
+    let indirect_block = c.args.inode.now.indirect in
     let double = c.args.inode.now.double in
-    let first = nothing_spent c.args.draft.now c.take_block.new.draft c.args.number far double
-    c.take_block.ensures.geometry c.take_block.ensures.stays c.take_block.ensures.spent in
-    let second = nothing_spent c.take_block.new.draft c.take_block-2.new.draft c.args.number far double
-    c.take_block-2.ensures.geometry c.take_block-2.ensures.stays c.take_block-2.ensures.spent in
+    let first = nothing_dirty c.args.write_set.now c.take_block.new.write_set c.args.number indirect_block double
+    c.take_block.ensures.geometry c.take_block.ensures.stays c.take_block.ensures.dirty_count in
+    let second = nothing_dirty c.take_block.new.write_set c.take_block-2.new.write_set c.args.number indirect_block double
+    c.take_block-2.ensures.geometry c.take_block-2.ensures.stays c.take_block-2.ensures.dirty_count in
     omega (arith, first, second)
 
-pub returns-in-Err-take_block-clause-pause : goal.returns-in-Err-take_block-clause-pause
-returns-in-Err-take_block-clause-pause c = λ blocks tree draft less.
-    let g = c.args.draft.now.there.geometry in
-    let base = image_of blocks c.args.draft.now in
-    c.in-Err-take_block.ensures.pause blocks base tree [] draft.shows (none_taken g base tree draft.holds)
+pub returns-in-Err-take_block-clause-resumable : goal.returns-in-Err-take_block-clause-resumable
+returns-in-Err-take_block-clause-resumable c = λ blocks tree write_set less.
+    let g = c.args.write_set.now.there.geometry in
+    let base = image_of blocks c.args.write_set.now in
+    c.in-Err-take_block.ensures.resumable blocks base tree [] write_set.shows (none_taken g base tree write_set.holds)
 
-pub returns-clause-pause : goal.returns-clause-pause
-returns-clause-pause c = λ blocks tree draft less.
-    let g = c.args.draft.now.there.geometry in
+pub returns-clause-resumable : goal.returns-clause-resumable
+returns-clause-resumable c = λ blocks tree write_set less.
+    let g = c.args.write_set.now.there.geometry in
     let b = c.in-Ok-Some.block in
-    let base = image_of blocks c.args.draft.now in
-    let first = image_of blocks c.take_block.new.draft in
+    let base = image_of blocks c.args.write_set.now in
+    let first = image_of blocks c.take_block.new.write_set in
     let one : HasTaken g base tree (b ∷ []) first =
     rw c.in-Ok-Some.field-0-is at
-    (c.in-Ok-Some.ensures.ok blocks base tree [] draft.shows (none_taken g base tree draft.holds)) in
-    c.in-Err-take_block-2.ensures.pause blocks base tree (b ∷ []) (c.in-Ok-Some.ensures.shows blocks draft.shows)
+    (c.in-Ok-Some.ensures.ok blocks base tree [] write_set.shows (none_taken g base tree write_set.holds)) in
+    c.in-Err-take_block-2.ensures.resumable blocks base tree (b ∷ []) (c.in-Ok-Some.ensures.shows blocks write_set.shows)
     (subst (λ (s : Geometry). HasTaken s base tree (b ∷ []) first) (sym c.take_block.ensures.geometry) one)

@@ -7,26 +7,26 @@ use Rattle.layout.specs.Fields.{four_bytes}
 use Rattle.layout.specs.declared.inode.Inode.{Inode}
 use Rattle.layout.specs.Parts.{content_in, put, with_bytes, with_inode}
 use Rattle.inode.specs.declared.snap.Snap.{Snap}
-use Rattle.inode.specs.Over.{IsOver, far_at}
-use Rattle.inode.specs.Drafts.Drafted.{Shows, image_of}
-use Rattle.inode.proofs.DraftsLemmas.PutThere.{over_of}
+use Rattle.inode.specs.Over.{IsOver, pointer_number_at}
+use Rattle.inode.specs.WriteSets.WriteSetContents.{Shows, image_of}
+use Rattle.inode.proofs.WriteSetsLemmas.PutThere.{over_of}
 use Rattle.bitmap.specs.NewBlock.{HasTaken}
 use Rattle.bitmap.proofs.NewBlocks.{none_taken}
 use Rattle.inode_data.specs.Filling.{Fills, mapping}
-use Rattle.inode_data.specs.Inner.{inner_of, place_of}
-use Rattle.inode_data.specs.Spent.{unspent}
+use Rattle.inode_data.specs.Inner.{inner_of, index_in_inner}
+use Rattle.inode_data.specs.CleanCounts.{clean_count}
 use Rattle.inode_data.proofs.DoubleCases.{block_named_inner}
-use Rattle.inode_data.proofs.FarNumbers.{named_count}
+use Rattle.inode_data.proofs.PointerNumbers.{named_count}
 use Rattle.inode_data.proofs.PieceWritten.{long_content, not_zero}
-use Rattle.inode_data.proofs.Stored.{content_are, named_are, stored_far}
+use Rattle.inode_data.proofs.Stored.{content_are, named_are, stored_indirect}
 use Rattle.inode_data.proofs.MappedFile.{as_mapped}
-use Rattle.inode_data.proofs.Once.{nothing_spent}
+use Rattle.inode_data.proofs.Once.{nothing_dirty}
 use Rattle.inode_data.proofs.Whole.{moved_piece}
 use Rattle.inode_data.proofs.doubles.map_inner.Goals as goal
 
-pub returns-in-Ok-store_far-clause-ok : goal.returns-in-Ok-store_far-clause-ok
-returns-in-Ok-store_far-clause-ok c =
-    let g = c.args.draft.now.there.geometry in
+pub returns-in-Ok-store_indirect-clause-ok : goal.returns-in-Ok-store_indirect-clause-ok
+returns-in-Ok-store_indirect-clause-ok c =
+    let g = c.args.write_set.now.there.geometry in
     let n = c.args.number in
     let inode = c.args.inode.now in
     let inner = c.args.inner in
@@ -34,42 +34,42 @@ returns-in-Ok-store_far-clause-ok c =
     let bytes = c.args.bytes.items in
     let numbers = c.in_ok-numbers-in-Ok-Some.numbers.items in
     let size = c.args.size in
-    λ done blocks tree offset piece draft write at none is_inner.
-    let base = image_of blocks c.args.draft.now in
-    let middle = image_of blocks c.take_block.new.draft in
+    λ done blocks tree offset piece write_set write at none is_inner.
+    let base = image_of blocks c.args.write_set.now in
+    let middle = image_of blocks c.take_block.new.write_set in
     let new = mapping inode size inode.direct inode.indirect inode.double in
     let taken : HasTaken g base tree (b ∷ []) middle =
     rw c.in-Ok-Some.field-0-is at
-    (c.in-Ok-Some.ensures.ok blocks base tree [] draft.shows (none_taken g base tree draft.holds)) in
-    let seen = c.in-Ok-Some.ensures.shows blocks draft.shows in
+    (c.in-Ok-Some.ensures.ok blocks base tree [] write_set.shows (none_taken g base tree write_set.holds)) in
+    let seen = c.in-Ok-Some.ensures.shows blocks write_set.shows in
     let was : c.in-Ok.block.now ≡ content_in g base inner =
     subst (λ (s : Snap). c.in-Ok.block.now ≡ content_in s.geometry base inner) c.there.ensures.there
     (c.in-Ok.ensures.ok base tree
     (subst (λ (s : Snap). IsOver s base tree) (sym c.there.ensures.there)
-    (over_of c.args.draft.now blocks tree draft))) in
-    let place : 4 * c.place_of.result ≡ 4 * place_of (offset / BLOCK_BYTES) =
-    ap (λ k. 4 * k) (c.place_of.ensures.is ∙ ap place_of at) in
+    (over_of c.args.write_set.now blocks tree write_set))) in
+    let offsets_agree : 4 * c.index_in_inner.result ≡ 4 * index_in_inner (offset / BLOCK_BYTES) =
+    ap (λ k. 4 * k) (c.index_in_inner.ensures.is ∙ ap index_in_inner at) in
     let old : c.deref.result.now ≡ content_in g base inner = c.deref.ensures.value ∙ c.in_ok-old-in-Ok.ensures.items
     ∙ was in
-    let named : numbers ≡ spliced (content_in g base inner) (4 * place_of (offset / BLOCK_BYTES)) (four_bytes b) =
-    c.in_ok-numbers-in-Ok-Some.ensures.made ∙ (λ i. spliced (old i) (place i) (four_bytes b)) in
+    let named : numbers ≡ spliced (content_in g base inner) (4 * index_in_inner (offset / BLOCK_BYTES)) (four_bytes b) =
+    c.in_ok-numbers-in-Ok-Some.ensures.made ∙ (λ i. spliced (old i) (offsets_agree i) (four_bytes b)) in
     let image = with_bytes (with_bytes middle inner 0 numbers) b 0 bytes in
-    let written : with_inode c.take_block.new.draft.there.geometry image n c.sized-same.result
+    let written : with_inode c.take_block.new.write_set.there.geometry image n c.sized-same.result
     ≡ with_inode g image n new =
     λ i. with_inode (c.take_block.ensures.geometry i) image n (c.sized-same.ensures i) in
-    moved_piece c.args.draft.now c.store_far.new.draft blocks (with_inode g image n new) tree n inode new
+    moved_piece c.args.write_set.now c.store_indirect.new.write_set blocks (with_inode g image n new) tree n inode new
     c.sized-same.result offset piece
-    (c.store_far.ensures.geometry ∙ c.take_block.ensures.geometry) (c.in-Ok-store_far.ensures.image blocks ∙ written)
-    (subst (Shows c.store_far.new.draft) written (c.in-Ok-store_far.ensures.shows middle seen))
+    (c.store_indirect.ensures.geometry ∙ c.take_block.ensures.geometry) (c.in-Ok-store_indirect.ensures.image blocks ∙ written)
+    (subst (Shows c.store_indirect.new.write_set) written (c.in-Ok-store_indirect.ensures.shows middle seen))
     write.has.less write.has.regular c.sized-same.ensures
-    (stored_far g base tree n inode offset piece bytes size write (b ∷ []) middle taken
+    (stored_indirect g base tree n inode offset piece bytes size write (b ∷ []) middle taken
     (λ q low. seen.long q (subst (λ (s : Geometry). q < s.blocks) (sym c.take_block.ensures.geometry) low))
     c.requires.len b inode.direct inode.indirect inode.double inner numbers
     (subst (λ (l : List ℕ). AreBytes l) (sym named)
-    (named_are (content_in g base inner) (4 * place_of (offset / BLOCK_BYTES)) b
-    (content_are g base tree draft.holds inner c.requires.inner)))
+    (named_are (content_in g base inner) (4 * index_in_inner (offset / BLOCK_BYTES)) b
+    (content_are g base tree write_set.holds inner c.requires.inner)))
     (ap (λ (l : List ℕ). length l) named
-    ∙ named_count (content_in g base inner) (place_of (offset / BLOCK_BYTES)) b
+    ∙ named_count (content_in g base inner) (index_in_inner (offset / BLOCK_BYTES)) b
     (long_content g base tree n inode write.has inner) (omega arith))
     c.requires.inner
     (subst (λ l. Fills g base inode offset piece b inode.direct inode.indirect inode.double
@@ -77,59 +77,59 @@ returns-in-Ok-store_far-clause-ok c =
     (block_named_inner g base tree n inode (as_mapped g base tree n inode write.has) offset piece write.fits b bytes
     taken.were_free.0 none
     write.bytes_are (subst (λ k. FIRST_DOUBLE_INDEX ≤ k) at c.requires.past) inner
-    (is_inner ∙ ap (λ k. far_at (content_in g base) inode.double (inner_of k)) at) (not_zero g inner
+    (is_inner ∙ ap (λ k. pointer_number_at (content_in g base) inode.double (inner_of k)) at) (not_zero g inner
     c.requires.inner))))
 
-pub returns-in-Ok-None-clause-room : goal.returns-in-Ok-None-clause-room
-returns-in-Ok-None-clause-room c = λ blocks tree draft room.
-    let g = c.args.draft.now.there.geometry in
-    let base = image_of blocks c.args.draft.now in
+pub returns-in-Ok-None-clause-has_space : goal.returns-in-Ok-None-clause-has_space
+returns-in-Ok-None-clause-has_space c = λ blocks tree write_set has_space.
+    let g = c.args.write_set.now.there.geometry in
+    let base = image_of blocks c.args.write_set.now in
     let full = rw c.in-Ok-None.field-0-is at
-    (c.in-Ok-None.ensures.ok blocks base tree [] draft.shows (none_taken g base tree draft.holds)) in
-    absurd (omega (arith, full, room))
+    (c.in-Ok-None.ensures.ok blocks base tree [] write_set.shows (none_taken g base tree write_set.holds)) in
+    absurd (omega (arith, full, has_space))
 
-pub returns-clause-pause : goal.returns-clause-pause
-returns-clause-pause c = λ blocks tree draft less.
-    let g = c.args.draft.now.there.geometry in
-    let base = image_of blocks c.args.draft.now in
-    c.in-Err-take_block.ensures.pause blocks base tree [] draft.shows (none_taken g base tree draft.holds)
+pub returns-clause-resumable : goal.returns-clause-resumable
+returns-clause-resumable c = λ blocks tree write_set less.
+    let g = c.args.write_set.now.there.geometry in
+    let base = image_of blocks c.args.write_set.now in
+    c.in-Err-take_block.ensures.resumable blocks base tree [] write_set.shows (none_taken g base tree write_set.holds)
 
-pub returns-in-Ok-store_far-clause-twice : goal.returns-in-Ok-store_far-clause-twice
-returns-in-Ok-store_far-clause-twice c =
-    let taken = nothing_spent c.args.draft.now c.take_block.new.draft c.args.number c.args.inode.now.indirect
-    c.args.inode.now.double c.take_block.ensures.geometry c.take_block.ensures.stays c.take_block.ensures.spent in
-    let twice = c.store_far.ensures.twice c.args.inode.now.indirect c.args.inode.now.double in
-    let same : ◌≡◌ {A = ℕ} (unspent c.store_far.new.draft c.args.number c.sized-same.result.indirect
+pub returns-in-Ok-store_indirect-clause-twice : goal.returns-in-Ok-store_indirect-clause-twice
+returns-in-Ok-store_indirect-clause-twice c =
+    let taken = nothing_dirty c.args.write_set.now c.take_block.new.write_set c.args.number c.args.inode.now.indirect
+    c.args.inode.now.double c.take_block.ensures.geometry c.take_block.ensures.stays c.take_block.ensures.dirty_count in
+    let twice = c.store_indirect.ensures.twice c.args.inode.now.indirect c.args.inode.now.double in
+    let same : ◌≡◌ {A = ℕ} (clean_count c.store_indirect.new.write_set c.args.number c.sized-same.result.indirect
     c.sized-same.result.double)
-    (unspent c.store_far.new.draft c.args.number c.args.inode.now.indirect c.args.inode.now.double) =
-    ap (λ (one : Inode). unspent c.store_far.new.draft c.args.number one.indirect one.double) c.sized-same.ensures in
+    (clean_count c.store_indirect.new.write_set c.args.number c.args.inode.now.indirect c.args.inode.now.double) =
+    ap (λ (one : Inode). clean_count c.store_indirect.new.write_set c.args.number one.indirect one.double) c.sized-same.ensures in
     omega (arith, taken, twice, same)
 
 pub returns-in-Ok-Some-clause-twice : goal.returns-in-Ok-Some-clause-twice
 returns-in-Ok-Some-clause-twice c =
-    let taken = nothing_spent c.args.draft.now c.take_block.new.draft c.args.number c.args.inode.now.indirect
-    c.args.inode.now.double c.take_block.ensures.geometry c.take_block.ensures.stays c.take_block.ensures.spent in
-    let twice = c.store_far.ensures.twice c.args.inode.now.indirect c.args.inode.now.double in
-    let same : ◌≡◌ {A = ℕ} (unspent c.store_far.new.draft c.args.number c.sized-same.result.indirect
+    let taken = nothing_dirty c.args.write_set.now c.take_block.new.write_set c.args.number c.args.inode.now.indirect
+    c.args.inode.now.double c.take_block.ensures.geometry c.take_block.ensures.stays c.take_block.ensures.dirty_count in
+    let twice = c.store_indirect.ensures.twice c.args.inode.now.indirect c.args.inode.now.double in
+    let same : ◌≡◌ {A = ℕ} (clean_count c.store_indirect.new.write_set c.args.number c.sized-same.result.indirect
     c.sized-same.result.double)
-    (unspent c.store_far.new.draft c.args.number c.args.inode.now.indirect c.args.inode.now.double) =
-    ap (λ (one : Inode). unspent c.store_far.new.draft c.args.number one.indirect one.double) c.sized-same.ensures in
+    (clean_count c.store_indirect.new.write_set c.args.number c.args.inode.now.indirect c.args.inode.now.double) =
+    ap (λ (one : Inode). clean_count c.store_indirect.new.write_set c.args.number one.indirect one.double) c.sized-same.ensures in
     omega (arith, taken, twice, same)
 
 pub returns-in-Ok-None-clause-twice : goal.returns-in-Ok-None-clause-twice
 returns-in-Ok-None-clause-twice c =
-    let taken = nothing_spent c.args.draft.now c.take_block.new.draft c.args.number c.args.inode.now.indirect
-    c.args.inode.now.double c.take_block.ensures.geometry c.take_block.ensures.stays c.take_block.ensures.spent in
+    let taken = nothing_dirty c.args.write_set.now c.take_block.new.write_set c.args.number c.args.inode.now.indirect
+    c.args.inode.now.double c.take_block.ensures.geometry c.take_block.ensures.stays c.take_block.ensures.dirty_count in
     omega (arith, taken)
 
 pub returns-clause-twice : goal.returns-clause-twice
 returns-clause-twice c =
-    let taken = nothing_spent c.args.draft.now c.take_block.new.draft c.args.number c.args.inode.now.indirect
-    c.args.inode.now.double c.take_block.ensures.geometry c.take_block.ensures.stays c.take_block.ensures.spent in
+    let taken = nothing_dirty c.args.write_set.now c.take_block.new.write_set c.args.number c.args.inode.now.indirect
+    c.args.inode.now.double c.take_block.ensures.geometry c.take_block.ensures.stays c.take_block.ensures.dirty_count in
     omega (arith, taken)
 
 pub returns-in_err-numbers-in-Ok-Some-clause-twice : goal.returns-in_err-numbers-in-Ok-Some-clause-twice
 returns-in_err-numbers-in-Ok-Some-clause-twice c =
-    let taken = nothing_spent c.args.draft.now c.take_block.new.draft c.args.number c.args.inode.now.indirect
-    c.args.inode.now.double c.take_block.ensures.geometry c.take_block.ensures.stays c.take_block.ensures.spent in
+    let taken = nothing_dirty c.args.write_set.now c.take_block.new.write_set c.args.number c.args.inode.now.indirect
+    c.args.inode.now.double c.take_block.ensures.geometry c.take_block.ensures.stays c.take_block.ensures.dirty_count in
     omega (arith, taken)

@@ -7,8 +7,8 @@ use Rattle.layout.specs.InodeForm.{is_data_block_or_none}
 use Rattle.layout.specs.Parts.{content_in}
 use Rattle.layout.proofs.NumbersIn.{in_length, none_some}
 use Rattle.inode_sizes.proofs.CutNumbers.{all_both}
-use Rattle.inode_sizes.proofs.InnersCut.{cut_beside, cut_none, cut_through}
-use Rattle.inode_sizes.proofs.ReadBack.{kept_passes}
+use Rattle.inode_sizes.proofs.InnersCut.{cut_not_through, cut_none, cut_through}
+use Rattle.inode_sizes.proofs.ReadBack.{left_over_passes}
 use Rattle.inode_sizes.proofs.doubles.cut_inner.Goals as goal
 
 pub returns-then-pointer-eq0-clause-ok : goal.returns-then-pointer-eq0-clause-ok
@@ -38,7 +38,7 @@ returns-then-index-through-clause-ok c = λ blocks tree pointers before over is.
     let inners = c.args.inners.now in
     let row = c.in_ok-row.row in
     let at : c.len-index.result ≡ length inners.numbers.items = omega (arith, c.len-index.ensures) in
-    cut_beside (numbers_in content) (in_length content) pointers c.args.count before inners.numbers.items inners.part
+    cut_not_through (numbers_in content) (in_length content) pointers c.args.count before inners.numbers.items inners.part
     inners.part_numbers.items inners.used c.args.gone.now.items is c.args.pointer c.add-2.new.numbers.items
     row.pointer row.numbers.items row.used c.cut_row.new.gone.items c.deref.result.now c.saturating_sub.result
     c.in_ok-row.ensures.is (c.deref.ensures.value ∙ c.in_ok-numbers.ensures.ok blocks tree over)
@@ -53,7 +53,7 @@ returns-then-index-through-clause-fits c = λ placed.
     let few = c.requires.fits.few in
     let row_few = c.in_ok-row.ensures.few in
     let more = ap (λ (l : List ℕ). length l) c.in_ok-add-2.ensures ∙ length-append was (row.pointer ∷ []) in
-    let now = kept_passes test c.args.pointer row.pointer row.numbers.items refl
+    let now = left_over_passes test c.args.pointer row.pointer row.numbers.items refl
     c.in_ok-row.ensures.is.pointer_is placed in
     record {
       placed = ap (list_all test) c.in_ok-add-2.ensures
@@ -84,7 +84,7 @@ returns-clause-fits c = λ placed.
     let few = c.requires.fits.few in
     let row_few = c.in_ok-row.ensures.few in
     let more = ap (λ (l : List ℕ). length l) c.in_ok-add-2.ensures ∙ length-append was (row.pointer ∷ []) in
-    let now = kept_passes test c.args.pointer row.pointer row.numbers.items refl
+    let now = left_over_passes test c.args.pointer row.pointer row.numbers.items refl
     c.in_ok-row.ensures.is.pointer_is placed in
     record {
       placed = ap (list_all test) c.in_ok-add-2.ensures

@@ -68,15 +68,15 @@ returns-clause-ok c = λ blocks tree over.
     (take_all c.loop-pointer.pointer-index c.args.pointers.now (omega (arith, past)))
     (c.loop-pointer.invariant.2 blocks tree over)
 
-pub returns-in_err-cut_inner-clause-pause : goal.returns-in_err-cut_inner-clause-pause
-returns-in_err-cut_inner-clause-pause c =
+pub returns-in_err-cut_inner-clause-resumable : goal.returns-in_err-cut_inner-clause-resumable
+returns-in_err-cut_inner-clause-resumable c =
     at_err c.from_residual-in_err-cut_inner.result c.in_err-cut_inner.field-0.0 _ (search rules)
     (λ blocks tree over named.
     let test = is_data_block_or_none c.args.snap.now.geometry in
     let content = content_in c.args.snap.now.geometry blocks in
     let i = c.loop-pointer.pointer-index in
     let pointers = c.args.pointers.now in
-    c.in_err-cut_inner.ensures.pause blocks tree over (passes_at test pointers i refl c.requires.placed)
+    c.in_err-cut_inner.ensures.resumable blocks tree over (passes_at test pointers i refl c.requires.placed)
     (λ some. ap (list_all test) (sym (some_in content _ some))
     ∙ passes_at (λ pointer. list_all test (numbers_in content pointer)) pointers i (none_pass content 0 refl test refl)
     named))

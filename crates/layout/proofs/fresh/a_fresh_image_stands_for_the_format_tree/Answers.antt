@@ -13,10 +13,10 @@ use Rattle.layout.proofs.fresh.a_fresh_image_stands_for_the_format_tree.Goals as
 lawful-sound : (g : Geometry) → IsLawful g.blocks g.inodes → SoundGeometry (geometry_of g)
 lawful-sound g lawful =
     let most = lawful.0.1 in
-    let room = lawful.1.3 in
+    let has_space = lawful.1.3 in
     record {
-      blocks = omega (arith, room);
-      most_blocks = omega (arith, most, room);
+      blocks = omega (arith, has_space);
+      most_blocks = omega (arith, most, has_space);
       inodes = lawful.1.0;
       most_inodes = lawful.1.1;
       whole_blocks = lawful.1.2;

@@ -6,7 +6,7 @@ returns-clause-answers g c = record {
   outcome = c.obey-disk.result.1;
   obeys = c.obey-disk.ensures;
   ends = c.conclude.ensures.status;
-  tells = c.conclude.ensures.told;
+  tells = c.conclude.ensures.reports;
 }
 
 pub returns-clause-refused : goal.returns-clause-refused

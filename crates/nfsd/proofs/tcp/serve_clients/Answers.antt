@@ -7,5 +7,5 @@ pub returns : goal.returns
 returns g c =
     let back : c.serve_announced.result.now ≡ c.writer-1.given.0 = search rules in
     listens _ _ _ _ _ c.serve_announced.new.ended c.concluded.result.1 _ c.in-Ok.ensures.opened
-    (rw back at c.serve_announced.ensures.told) c.serve_announced.ensures.boot c.concluded.ensures.outcome
+    (rw back at c.serve_announced.ensures.reports) c.serve_announced.ensures.boot c.concluded.ensures.outcome
     c.concluded.ensures.left

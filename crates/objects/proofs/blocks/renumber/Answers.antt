@@ -2,7 +2,7 @@ use Rattle.std.proofs.Common.{◌≡◌, ◌<◌, length, slice_index, get_or, s
 use Rattle.std.proofs.lemmas.List.{length-map, length-set}
 use Rattle.objects.specs.Indexed.{numbers}
 use Rattle.objects.specs.declared.present.Present.{Present}
-use Rattle.objects.proofs.Indexed.{distinct, noted_too, numbers-at}
+use Rattle.objects.proofs.Indexed.{distinct, tracked_too, numbers-at}
 use Rattle.objects.proofs.blocks.renumber.Goals as goal
 
 pub bounds-indices-list : goal.bounds-indices-list
@@ -29,10 +29,10 @@ loop-i-preserved c =
     let long = c.loop-i.invariant.long in
     record {
       long = length-set c.loop-i.indices here.block.0 c.loop-i.i ∙ long;
-      noted = noted_too (numbers c.args.list.now) c.loop-i.indices c.loop-i.i here.block.0
+      tracked = tracked_too (numbers c.args.list.now) c.loop-i.indices c.loop-i.i here.block.0
           (omega (arith, home, at, long)) at
           (λ k less e. distinct c.args.list.now c.requires.once k c.loop-i.i less lt (e ∙ sym at))
-          c.loop-i.invariant.noted;
+          c.loop-i.invariant.tracked;
     }
 
 pub returns : goal.returns
@@ -43,5 +43,5 @@ returns c =
     let end : length c.args.list.now ≡ c.loop-i.i = omega arith in
     record {
       homed = λ k lt. (let home = c.requires.homed k lt in omega (arith, home, long));
-      there = λ k lt. c.loop-i.invariant.noted k (omega (arith, lt, size, end));
+      there = λ k lt. c.loop-i.invariant.tracked k (omega (arith, lt, size, end));
     }

@@ -6,5 +6,5 @@ use Rattle.objects.proofs.blocks.renumber.Given as goal
 abbrev pub invariant-loop-i : goal.invariant-loop-i
 invariant-loop-i l = record {
   long : length l.indices ≡ length l.fn.indices;
-  noted : (k : ℕ) → k < l.i → slice_index l.indices (slice_index (numbers l.list) k) ≡ k;
+  tracked : (k : ℕ) → k < l.i → slice_index l.indices (slice_index (numbers l.list) k) ≡ k;
 }

@@ -1,8 +1,8 @@
 use Rattle.std.proofs.Common.{◌∙◌, ◌≡◌, ◌||◌, Bool, true, false, not, sym, subst, nat_eq, is_none, arith}
 use Rattle.objects.specs.Pins.{LetsGo, count_in}
-use Rattle.objects.specs.Unneeded.{AreNoted}
+use Rattle.objects.specs.Unneeded.{AreTracked}
 use Rattle.objects.specs.declared.present.Present.{Present}
-use Rattle.objects.proofs.Noted.{noted_gone, noted_pinned}
+use Rattle.objects.proofs.Tracked.{tracked_gone, tracked_pinned}
 use Rattle.objects.proofs.Wanted.{lets_go, lets_none}
 use Rattle.objects.proofs.clean.let_clean_go.Goals as goal
 
@@ -17,10 +17,10 @@ pending : (t n : Bool) → t ≡ true → (not t || n) ≡ true → n ≡ true
 pending true n is kept = kept
 pending false n is kept = absurd (cc)
 
-pub returns-then-count_of-eq0-clause-noted : goal.returns-then-count_of-eq0-clause-noted
-returns-then-count_of-eq0-clause-noted c =
-    λ numbers h. subst (AreNoted numbers (count_in c.args.pins.now.entries)) (sym c.unpin.ensures)
-    (noted_gone c.args.block numbers (count_in c.args.pins.now.entries)
+pub returns-then-count_of-eq0-clause-tracked : goal.returns-then-count_of-eq0-clause-tracked
+returns-then-count_of-eq0-clause-tracked c =
+    λ numbers h. subst (AreTracked numbers (count_in c.args.pins.now.entries)) (sym c.unpin.ensures)
+    (tracked_gone c.args.block numbers (count_in c.args.pins.now.entries)
     (λ (resident : Present). not (nat_eq resident.block.0 c.args.block.0) || is_none resident.content)
     (λ resident is kept. pending (nat_eq resident.block.0 c.args.block.0) (is_none resident.content) is kept)
     c.args.blocks.now h)
@@ -28,8 +28,8 @@ returns-then-count_of-eq0-clause-noted c =
 pub returns-else-count_of-eq0-clause-goes : goal.returns-else-count_of-eq0-clause-goes
 returns-else-count_of-eq0-clause-goes c = lets_none (count_in c.args.pins.now.entries) c.args.blocks.now
 
-pub returns-else-count_of-eq0-clause-noted : goal.returns-else-count_of-eq0-clause-noted
-returns-else-count_of-eq0-clause-noted c =
-    λ numbers h. noted_pinned c.args.block numbers (count_in c.args.pins.now.entries)
+pub returns-else-count_of-eq0-clause-tracked : goal.returns-else-count_of-eq0-clause-tracked
+returns-else-count_of-eq0-clause-tracked c =
+    λ numbers h. tracked_pinned c.args.block numbers (count_in c.args.pins.now.entries)
     (let some = c.count_of.ensures in let more = c.if-count_of-eq0.false in omega (arith, some, more))
     c.args.blocks.now h

@@ -15,5 +15,5 @@ returns-clause-few c =
 
 pub returns-clause-forgot : goal.returns-clause-forgot
 returns-clause-forgot c =
-    λ told. ap (λ (cache : LruCache ℕ (Unit {0})). keys_of cache.entries) c.keep_last.ensures
+    λ proven. ap (λ (cache : LruCache ℕ (Unit {0})). keys_of cache.entries) c.keep_last.ensures
     ∙ keys_of-take CLEAN_BLOCKS c.args.numbers.now.entries

@@ -40,7 +40,7 @@ returns-in_err-number-in-len5-4-clause-senseless c =
     let unspelled = c.in_err-number-in-len5-4.ensures.senseless in
     let none = c.from_residual-in_err-number-in-len5-4 in
     asks_for_none c.args.line.now 4 word.result (omega (arith, long)) word.is unspelled none.result
-    none.ensures (λ asked. asked.pace.second) (λ asked asks. asks.second)
+    none.ensures (λ asked. asked.fake_clock.second) (λ asked asks. asks.second)
 
 pub returns-in_err-number-in-len6-clause-senseless :
     goal.returns-in_err-number-in-len6-clause-senseless
@@ -80,7 +80,7 @@ returns-in_err-number-in-len6-4-clause-senseless c =
     let unspelled = c.in_err-number-in-len6-4.ensures.senseless in
     let none = c.from_residual-in_err-number-in-len6-4 in
     asks_for_none c.args.line.now 4 word.result (omega (arith, long)) word.is unspelled none.result
-    none.ensures (λ asked. asked.pace.second) (λ asked asks. asks.second)
+    none.ensures (λ asked. asked.fake_clock.second) (λ asked asks. asks.second)
 
 pub returns-in_err-number-in-len6-5-clause-senseless :
     goal.returns-in_err-number-in-len6-5-clause-senseless
@@ -90,5 +90,5 @@ returns-in_err-number-in-len6-5-clause-senseless c =
     let unspelled = c.in_err-number-in-len6-5.ensures.senseless in
     let none = c.from_residual-in_err-number-in-len6-5 in
     asks_for_none c.args.line.now 5 word.result (omega (arith, long)) word.is unspelled none.result
-    none.ensures (λ asked. asked.pace.rise)
-    (λ asked asks. rises_by c.args.line.now asked.pace.rise (omega (arith, long)) asks.rise)
+    none.ensures (λ asked. asked.fake_clock.rise)
+    (λ asked asks. rises_by c.args.line.now asked.fake_clock.rise (omega (arith, long)) asks.rise)

@@ -3,9 +3,9 @@ use Rattle.pool.proofs.work.advance.Goals as goal
 
 pub returns : goal.returns
 returns c = (
-  c.step_vouched-made.new.self.state,
-  c.step_vouched-made.ensures.step,
+  c.step_witnessed-made.new.self.state,
+  c.step_witnessed-made.ensures.step,
   c.take_answer-given.ensures.rest,
   c.take_answer-given.ensures.result,
-  c.step_vouched-made.ensures.vouched,
+  c.step_witnessed-made.ensures.witnessed,
 )

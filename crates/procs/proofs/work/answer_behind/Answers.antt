@@ -4,7 +4,7 @@ use Rattle.procs.proofs.work.answer_behind.Goals as goal
 
 pub returns-in-Err-read_file-clause-io : goal.returns-in-Err-read_file-clause-io
 returns-in-Err-read_file-clause-io c =
-    for_calls c.args.ctx.now c.args.call.now c.args.snap.now c.in-Err-read_file.stop c.in-Err-read_file.ensures.io
+    for_calls c.args.ctx.now c.args.call.now c.args.snap.now c.in-Err-read_file.suspend c.in-Err-read_file.ensures.io
 
 pub returns-in-Ok-read_file-clause-sound : goal.returns-in-Ok-read_file-clause-sound
 returns-in-Ok-read_file-clause-sound c = λ nothing.

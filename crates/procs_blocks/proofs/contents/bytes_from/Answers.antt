@@ -9,10 +9,10 @@ returns-in-Regular-clause-ok c =
     regular_bytes c.args.snap.now.geometry blocks c.args.inode.now c.args.offset c.args.count c.at_most.result
     bytes c.in-Regular.is c.at_most.ensures (is blocks tree file has)) c.piece.ensures.ok
 
-pub returns-in-Regular-clause-pause : goal.returns-in-Regular-clause-pause
-returns-in-Regular-clause-pause c =
+pub returns-in-Regular-clause-resumable : goal.returns-in-Regular-clause-resumable
+returns-in-Regular-clause-resumable c =
     IfErr-weaker c.piece.result _ _ (λ why p blocks tree file has. p blocks tree file has c.in-Regular.is)
-    c.piece.ensures.pause
+    c.piece.ensures.resumable
 
 pub returns-in-Directory-clause-ok : goal.returns-in-Directory-clause-ok
 returns-in-Directory-clause-ok c = λ blocks tree file has.

@@ -8,10 +8,10 @@ returns-in-Directory-clause-ok c =
     directory_vacant c.args.snap.now.geometry blocks c.args.inode.now free c.in-Directory.is
     (is blocks tree file (record { has = has; kind = c.in-Directory.is }))) c.free_slot.ensures.ok
 
-pub returns-in-Directory-clause-pause : goal.returns-in-Directory-clause-pause
-returns-in-Directory-clause-pause c =
+pub returns-in-Directory-clause-resumable : goal.returns-in-Directory-clause-resumable
+returns-in-Directory-clause-resumable c =
     IfErr-weaker c.free_slot.result _ _ (λ why p blocks tree file has.
-    p blocks tree file (record { has = has; kind = c.in-Directory.is })) c.free_slot.ensures.pause
+    p blocks tree file (record { has = has; kind = c.in-Directory.is })) c.free_slot.ensures.resumable
 
 pub returns-in-Regular-clause-ok : goal.returns-in-Regular-clause-ok
 returns-in-Regular-clause-ok c = λ blocks tree file has.

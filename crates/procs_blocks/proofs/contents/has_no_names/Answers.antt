@@ -8,10 +8,10 @@ returns-in-Directory-clause-ok c =
     directory_filled c.args.snap.now.geometry blocks c.args.inode.now empty c.in-Directory.is
     (is blocks tree file (record { has = has; kind = c.in-Directory.is }))) c.is_empty.ensures.ok
 
-pub returns-in-Directory-clause-pause : goal.returns-in-Directory-clause-pause
-returns-in-Directory-clause-pause c =
+pub returns-in-Directory-clause-resumable : goal.returns-in-Directory-clause-resumable
+returns-in-Directory-clause-resumable c =
     IfErr-weaker c.is_empty.result _ _ (λ why p blocks tree file has.
-    p blocks tree file (record { has = has; kind = c.in-Directory.is })) c.is_empty.ensures.pause
+    p blocks tree file (record { has = has; kind = c.in-Directory.is })) c.is_empty.ensures.resumable
 
 pub returns-in-Regular-clause-ok : goal.returns-in-Regular-clause-ok
 returns-in-Regular-clause-ok c = λ blocks tree file has.

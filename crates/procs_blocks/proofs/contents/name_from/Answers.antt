@@ -9,10 +9,10 @@ returns-in-Directory-clause-ok c =
     (record { has = has; kind = c.in-Directory.is }) c.args.from found
     (next blocks tree file (record { has = has; kind = c.in-Directory.is }))) c.next_name.ensures.ok
 
-pub returns-in-Directory-clause-pause : goal.returns-in-Directory-clause-pause
-returns-in-Directory-clause-pause c =
+pub returns-in-Directory-clause-resumable : goal.returns-in-Directory-clause-resumable
+returns-in-Directory-clause-resumable c =
     IfErr-weaker c.next_name.result _ _ (λ why p blocks tree file has.
-    p blocks tree file (record { has = has; kind = c.in-Directory.is })) c.next_name.ensures.pause
+    p blocks tree file (record { has = has; kind = c.in-Directory.is })) c.next_name.ensures.resumable
 
 pub returns-in-Regular-clause-ok : goal.returns-in-Regular-clause-ok
 returns-in-Regular-clause-ok c = λ blocks tree file has.

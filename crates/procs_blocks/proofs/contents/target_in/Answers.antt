@@ -8,10 +8,10 @@ returns-in-Link-clause-ok c =
     link_target c.args.snap.now.geometry blocks c.args.inode.now bytes.items link (is blocks tree file has))
     c.target.ensures.ok
 
-pub returns-in-Link-clause-pause : goal.returns-in-Link-clause-pause
-returns-in-Link-clause-pause c =
+pub returns-in-Link-clause-resumable : goal.returns-in-Link-clause-resumable
+returns-in-Link-clause-resumable c =
     IfErr-weaker c.target.result _ _ (λ why p blocks tree file has. p blocks tree file has c.in-Link.is)
-    c.target.ensures.pause
+    c.target.ensures.resumable
 
 pub returns-in-Regular-clause-ok : goal.returns-in-Regular-clause-ok
 returns-in-Regular-clause-ok c = λ blocks tree file has link.

@@ -1,7 +1,7 @@
 use Rattle.std.proofs.lemmas.Result.{IfErr-weaker, IfOk-weaker}
-use Rattle.inode.proofs.HeldThere.{pauses}
+use Rattle.inode.proofs.HeldThere.{resumes}
 use Rattle.inode.proofs.Stops.{both_err}
-use Rattle.procs_blocks.proofs.Told.{may_stop}
+use Rattle.procs_blocks.proofs.InodeNodes.{may_suspend}
 use Rattle.procs_blocks.proofs.space.blocks_left.Goals as goal
 
 pub returns-clause-ok : goal.returns-clause-ok
@@ -11,10 +11,10 @@ returns-clause-ok c =
 
 pub returns-clause-err : goal.returns-clause-err
 returns-clause-err c =
-    both_err c.free_blocks.result _ _ _ (λ why new asked. may_stop c.args.snap.now why new asked)
+    both_err c.free_blocks.result _ _ _ (λ why new asked. may_suspend c.args.snap.now why new asked)
     c.free_blocks.ensures.err c.free_blocks.ensures.asks
 
-pub returns-clause-pause : goal.returns-clause-pause
-returns-clause-pause c =
+pub returns-clause-resumable : goal.returns-clause-resumable
+returns-clause-resumable c =
     IfErr-weaker c.free_blocks.result _ _ (λ why none blocks tree over.
-    pauses c.args.snap.now why blocks tree none over) c.free_blocks.ensures.io
+    resumes c.args.snap.now why blocks tree none over) c.free_blocks.ensures.io

@@ -9,10 +9,10 @@ returns-in-Directory-clause-some c = λ is blocks are.
     refused_slots c.in-Directory.is at.0 at.1 at.2
 
 pub returns-in-Directory-clause-none : goal.returns-in-Directory-clause-none
-returns-in-Directory-clause-none c = λ is blocks saw clear refused. elim refused [
-  | refused_numbers pointer ↦ c.is_refused_far.ensures.none c.if-is_refused_far.false blocks saw pointer
-  | refused_slots kind index less at ↦ elim (cases_lt index c.args.clear) [
-    | inl early ↦ clear index early at
+returns-in-Directory-clause-none c = λ is blocks saw valid_blocks refused. elim refused [
+  | refused_numbers pointer ↦ c.is_refused_in_indirect.ensures.none c.if-is_refused_in_indirect.false blocks saw pointer
+  | refused_slots kind index less at ↦ elim (cases_lt index c.args.valid_blocks) [
+    | inl early ↦ valid_blocks index early at
     | inr late ↦ c.is_refused_directory.ensures.none is blocks index saw late less at
   ]
 ]

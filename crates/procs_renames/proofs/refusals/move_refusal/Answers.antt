@@ -5,7 +5,7 @@ use Rattle.procs_renames.proofs.Agreeing.{link_agrees, sort_agrees}
 use Rattle.procs_renames.proofs.refusals.move_refusal.Goals as goal
 
 pub returns-clause-ok : goal.returns-clause-ok
-returns-clause-ok g c = λ world tree body home found stands at aim there.
+returns-clause-ok g c = λ world tree body home found stands at target_at there.
     let below = c.in_ok-below.ensures.ok world tree body stands at in
     let other = c.is_other_sort-other.ensures
     ∙ sort_agrees tree c.args.file.now body found c.args.replaced.now at there in

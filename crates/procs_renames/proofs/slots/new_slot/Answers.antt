@@ -1,6 +1,6 @@
 use Rattle.std.proofs.Common.{◌∙◌}
 use Rattle.std.proofs.lemmas.Result.{IfOk-weaker}
-use Rattle.nfs_spec.specs.Procedures.Places.{entry_at}
+use Rattle.nfs_spec.specs.Procedures.Places.{dirent_at}
 use Rattle.procs_renames.proofs.Doings.{slot_elsewhere, slot_within}
 use Rattle.procs_renames.proofs.slots.new_slot.Goals as goal
 
@@ -9,8 +9,8 @@ returns-then-source-target-clause-ok g c =
     IfOk-weaker c.slot_of.result _ _ (λ slot then world tree body goal stands from_at to_at.
     then world tree body stands from_at
     ∙ slot_within c.args.source.now.number c.args.target.now.number c.if-source-target.true
-    (entry_at body c.args.name.now) (entry_at goal c.args.new_name.now) goal
-    ((rw c.in-None.is at c.in_ok-entry.ensures.ok) world tree goal stands to_at))
+    (dirent_at body c.args.name.now) (dirent_at goal c.args.new_name.now) goal
+    ((rw c.in-None.is at c.in_ok-dirent.ensures.ok) world tree goal stands to_at))
     c.slot_of.ensures.ok
 
 pub returns-else-source-target-clause-ok : goal.returns-else-source-target-clause-ok
@@ -18,6 +18,6 @@ returns-else-source-target-clause-ok g c =
     IfOk-weaker c.free_slot.result _ _ (λ slot then world tree body goal stands from_at to_at.
     then world tree goal stands to_at
     ∙ slot_elsewhere c.args.source.now.number c.args.target.now.number c.if-source-target.false
-    (entry_at body c.args.name.now) (entry_at goal c.args.new_name.now) goal
-    ((rw c.in-None.is at c.in_ok-entry.ensures.ok) world tree goal stands to_at))
+    (dirent_at body c.args.name.now) (dirent_at goal c.args.new_name.now) goal
+    ((rw c.in-None.is at c.in_ok-dirent.ensures.ok) world tree goal stands to_at))
     c.free_slot.ensures.ok

@@ -6,6 +6,6 @@ returns c = record {
   before = c.in_ok-make.field-0;
   made = c.in_ok-make.ensures;
   events = c.truncate.new.self.items;
-  promised = λ tree first. rw c.in_ok-told.was at (c.run-disk.ensures.promised tree first);
+  promised = λ tree first. rw c.in_ok-run_record.was at (c.run-disk.ensures.promised tree first);
   all = search rules;
 }

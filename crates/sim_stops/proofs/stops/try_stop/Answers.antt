@@ -11,7 +11,7 @@ use Rattle.sim_stops.proofs.stops.try_stop.Goals as goal
 
 pub numbers-preserved : goal.numbers-preserved
 numbers-preserved g c =
-    let told = c.in_ok-disk.run' in
+    let run_record = c.in_ok-disk.run' in
     let files = c.args.files.now in
     let counts : c.deref-in-numbers.result.now ≡ counts_in (blocks_of c.in_ok-disk.disk) =
     c.deref-in-numbers.ensures.value ∙ c.in_ok-counts.ensures in
@@ -19,11 +19,11 @@ numbers-preserved g c =
     ≡ choice_of MOST_AT_A_STOP (counts_in (blocks_of c.in_ok-disk.disk)) c.numbers.number =
     c.deref-in-numbers-3.ensures.value ∙ c.in_ok-choice.ensures
     ∙ ap (λ (some : List ℕ). choice_of MOST_AT_A_STOP some c.numbers.number) counts in
-    let most : c.len.result ≡ length told.history.items = search rules in
-    let wanted = subst (λ (n : ℕ). HasWanted files (promised_of told.history.items told.answers.items) n c.crash.result) most
+    let most : c.len.result ≡ length run_record.history.items = search rules in
+    let wanted = subst (λ (n : ℕ). HasWanted files (promised_of run_record.history.items run_record.answers.items) n c.crash.result) most
     (subst (λ (n : ℕ). HasWanted files n c.len.result c.crash.result) c.promised.ensures c.in_ok-try_image.ensures) in
     below_more
-    (λ (n : ℕ). IsTriedImage c.args.asked files told
+    (λ (n : ℕ). IsTriedImage c.args.asked files run_record
     (choice_of MOST_AT_A_STOP (counts_in (blocks_of c.in_ok-disk.disk)) n))
     c.numbers.number c.numbers.invariant
     (record {
@@ -41,7 +41,7 @@ returns g c =
     let last : c.choices-all.result ≤ c.numbers.number = search rules in
     record {
       disk = c.in_ok-disk.disk;
-      told = c.in_ok-disk.run';
+      run_record = c.in_ok-disk.run';
       ran = c.in_ok-disk.ensures;
       images_are = c.choices-all.ensures
           ∙ ap (λ (some : List ℕ). choices_of some MOST_AT_A_STOP) (c.deref.ensures.value ∙ c.in_ok-counts.ensures);

@@ -10,14 +10,14 @@ pub returns-in-Some-clause-boot : goal.returns-in-Some-clause-boot
 returns-in-Some-clause-boot g c = c.go_on.ensures.boot ∙ c.steps.invariant.5
 
 pub returns-in-Some-clause-answered : goal.returns-in-Some-clause-answered
-returns-in-Some-clause-answered g c = λ o keeps calling.
+returns-in-Some-clause-answered g c = λ o preserves calling.
     let store = c.go_on.new.store in
     let worker = c.go_on.new.worker.state in
-    let so_far = c.steps.invariant.6 o (c.go_on.ensures.model keeps) calling in
+    let so_far = c.steps.invariant.6 o (c.go_on.ensures.model preserves) calling in
     let is : Some c.in-Some.answered ≡ worker.work.answer = sym c.in-Some.is ∙ c.take_answer.ensures.result in
-    let has = answered c.an_open_store_keeps_its_files.ensures.now c.a_stop_leaves_a_beginning.ensures.files o
+    let has = answered c.an_open_store_preserves_its_files.ensures.now c.a_stop_leaves_a_beginning.ensures.files o
     (store_of (g.D.CrashDisk.device store.disk) store.core store.boot) worker c.in-Some.answered
-    (g.met.D.CrashDisk.whole store.disk keeps) (c.go_on.ensures.going o keeps so_far) is in (
+    (g.met.D.CrashDisk.whole store.disk preserves) (c.go_on.ensures.going o preserves so_far) is in (
       has.0,
       ap (λ (s : State). s.phase) c.take_answer.ensures.rest ∙ has.1,
     )
@@ -28,12 +28,12 @@ steps-preserved g c = (
   search rules,
   search rules,
   search rules,
-  λ keeps. c.steps.invariant.4 (c.go_on.ensures.model keeps),
+  λ preserves. c.steps.invariant.4 (c.go_on.ensures.model preserves),
   c.go_on.ensures.boot ∙ c.steps.invariant.5,
-  λ o keeps calling.
+  λ o preserves calling.
       let store = c.go_on.new.store in
-      let so_far = c.steps.invariant.6 o (c.go_on.ensures.model keeps) calling in
+      let so_far = c.steps.invariant.6 o (c.go_on.ensures.model preserves) calling in
       subst (λ (s : State). IsCalling o (store_of (g.D.CrashDisk.device store.disk) store.core store.boot) s)
       (sym c.take_answer.ensures.rest)
-      (c.go_on.ensures.going o keeps so_far).calling,
+      (c.go_on.ensures.going o preserves so_far).calling,
 )

@@ -8,7 +8,7 @@ use Rattle.store_images.proofs.OneCall.{answered, at_rest_is, made_one}
 use Rattle.store_images.proofs.SettlingCalls.{settles_none, settles_one}
 use Rattle.store_images.proofs.Staying.{none_left, same_open as same_stays}
 use Rattle.store_images.proofs.StillOpen.{open_by}
-use Rattle.store_images.specs.LogSide.{MayMake, MayStep, gives_back, pending_of, side_with}
+use Rattle.store_images.specs.LogCallState.{MayMake, MayStep, gives_back, pending_of, store_state_with}
 use Rattle.store_images.proofs.opened.call_one.Goals as goal
 
 pub returns : goal.returns
@@ -22,34 +22,34 @@ returns g c =
     let size : d.size ≡ old.log.blocks = search rules in
     let made = made_one _ old new d e c.lawful.ensures.log side one size c.requires in
     let answer = answered _ old new d e side one size in
-    let law = c.the_calls_of_a_side_are_steps.ensures in
+    let law = c.the_calls_of_a_role_are_steps.ensures in
     record {
-      out = made.kept.out;
+      out = made.is_preserved.out;
       boot = search rules;
       «open» = open_by (MayStep side) (MayMake side) (MayStep side) d e old new
-          (side_with side d old idle idle) (side_with side d one.mid (out one.io) idle)
-          (side_with side e one.mid (pending_of (Some one.io) (Some one.ok)) idle) (side_with side e new idle idle)
+          (store_state_with side d old idle idle) (store_state_with side d one.mid (out one.io) idle)
+          (store_state_with side e one.mid (pending_of (Some one.io) (Some one.ok)) idle) (store_state_with side e new idle idle)
           (at_rest_is side d old) (at_rest_is side e new) _ _ _
-          (law.taken side d old one.mid one.io idle c.lawful.ensures.log one.goes one.lawful.log one.lawful.tidy)
+          (law.taken side d old one.mid one.io idle c.lawful.ensures.log one.goes one.lawful.log one.lawful.well_formed)
           (law.made side d e one.mid one.io one.ok idle one.lawful.log answer)
           (law.given side e one.mid new one.io one.ok idle one.lawful.log one.back c.lawful-2.ensures.log
-          c.lawful-2.ensures.tidy)
+          c.lawful-2.ensures.well_formed)
           made.further made.called;
       counts = made.frame;
       numbers = made.numbers;
-      fetches = made.kept.fetches;
+      fetches = made.is_preserved.fetches;
       may = search rules;
       called = λ _. made.called;
       none = search rules;
       few = spends_one old.log new.log d e made.called made.later.clock;
       stays = λ base boot first last entries since.
           let home = home_next base one.mid.log (Some (gives_back side one.ok)) in
-          let given = c.a_call_of_a_side_leaves_the_store_open.ensures side base d e old one.mid new one.io one.ok
-          boot first last entries since one.goes one.lawful.log one.lawful.tidy answer one.back c.lawful-2.ensures.log
-          c.lawful-2.ensures.tidy in
+          let given = c.a_call_of_a_role_leaves_the_store_open.ensures side base d e old one.mid new one.io one.ok
+          boot first last entries since one.goes one.lawful.log one.lawful.well_formed answer one.back c.lawful-2.ensures.log
+          c.lawful-2.ensures.well_formed in
           record {
             past = past_one d e made.later;
-            left = c.an_open_store_keeps_its_files.ensures.call d d e base old idle idle boot (settled_place old.log)
+            left = c.an_open_store_preserves_its_files.ensures.call d d e base old idle idle boot (settled_place old.log)
                 first last entries (none_left d boot first entries (settled_place old.log)) since (omega arith)
                 made.later;
             further = made.further.settled;

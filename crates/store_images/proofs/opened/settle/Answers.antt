@@ -5,10 +5,10 @@ use Rattle.store_images.proofs.CallsLeft.{stuck}
 use Rattle.store_images.proofs.CallsMade.{made_few, spends_along}
 use Rattle.store_images.proofs.SettlingCalls.{settled_by, settles_along}
 use Rattle.store_images.specs.Settling.{SpendsCalls, SpendsSettling}
-use Rattle.store_images.proofs.Staying.{prefixes_kept, stay_along, still_open}
+use Rattle.store_images.proofs.Staying.{prefixes_preserved, stay_along, still_open}
 use Rattle.store_images.proofs.StillOpen.{open_then, same_open}
 use Rattle.store_images.specs.SettlingStops.{StayOpen}
-use Rattle.store_images.proofs.opened.settle.Goals.{else-is_settled-via-then-is_settled+else-not-keeps_too_many}
+use Rattle.store_images.proofs.opened.settle.Goals.{else-is_settled-via-then-is_settled+else-not-has_too_many_uninstalled}
 use Rattle.store_images.proofs.opened.settle.Goals.{else-is_settled-via-else-is_settled}
 use Rattle.store_images.proofs.opened.settle.Goals.{else-not-call_one-via-then-not-call_one+else-not-call_one-2}
 use Rattle.store_images.proofs.opened.settle.Goals.{else-not-call_one-via-else-not-call_one}
@@ -21,8 +21,8 @@ unreachable-requires g c =
     (c.calls.invariant.1.log_out ∙ c.requires.logging) (c.calls.invariant.1.inst_out ∙ c.requires.installing)
     c.if-not-call_one.ensures.may (c.if-not-call_one.ensures.none refl).0 c.if-not-call_one-2.ensures.may in
     elim c.else-is_settled.branch [
-      | else-is_settled-via-then-is_settled+else-not-keeps_too_many w ↦
-          let many = w.if-not-keeps_too_many.ensures.0 refl in grind (arith, rest.1)
+      | else-is_settled-via-then-is_settled+else-not-has_too_many_uninstalled w ↦
+          let many = w.if-not-has_too_many_uninstalled.ensures.0 refl in grind (arith, rest.1)
       | else-is_settled-via-else-is_settled w ↦
           absurd (true≢false (sym (w.if-is_settled.ensures.1 rest.0)))
     ]
@@ -38,28 +38,28 @@ returns-then-broken-clause-bound g c =
     c.args.store.now.core.log c.calls.store.core.log c.lawful.ensures.log c.requires
     c.calls.invariant.9
 
-pub returns-then-broken-clause-keeps : goal.returns-then-broken-clause-keeps
-returns-then-broken-clause-keeps g c = λ keeps.
-    prefixes_kept (g.D.CrashDisk.device c.args.store.now.disk) (g.D.CrashDisk.device c.calls.store.disk)
-    c.args.store.now.core c.calls.store.core (g.met.D.CrashDisk.whole c.calls.store.disk keeps)
-    c.an_open_store_keeps_its_files.ensures.now c.a_stop_leaves_a_beginning.ensures.files c.calls.invariant.7
+pub returns-then-broken-clause-preserves : goal.returns-then-broken-clause-preserves
+returns-then-broken-clause-preserves g c = λ preserves.
+    prefixes_preserved (g.D.CrashDisk.device c.args.store.now.disk) (g.D.CrashDisk.device c.calls.store.disk)
+    c.args.store.now.core c.calls.store.core (g.met.D.CrashDisk.whole c.calls.store.disk preserves)
+    c.an_open_store_preserves_its_files.ensures.now c.a_stop_leaves_a_beginning.ensures.files c.calls.invariant.7
 
-pub returns-then-not-keeps_too_many-clause-few : goal.returns-then-not-keeps_too_many-clause-few
-returns-then-not-keeps_too_many-clause-few g c =
+pub returns-then-not-has_too_many_uninstalled-clause-few : goal.returns-then-not-has_too_many_uninstalled-clause-few
+returns-then-not-has_too_many_uninstalled-clause-few g c =
     made_few (g.D.CrashDisk.device c.args.store.now.disk) (g.D.CrashDisk.device c.calls.store.disk)
     c.args.store.now.core.log c.calls.store.core.log c.calls.invariant.8
 
-pub returns-then-not-keeps_too_many-clause-bound : goal.returns-then-not-keeps_too_many-clause-bound
-returns-then-not-keeps_too_many-clause-bound g c =
+pub returns-then-not-has_too_many_uninstalled-clause-bound : goal.returns-then-not-has_too_many_uninstalled-clause-bound
+returns-then-not-has_too_many_uninstalled-clause-bound g c =
     settled_by (g.D.CrashDisk.device c.args.store.now.disk) (g.D.CrashDisk.device c.calls.store.disk)
     c.args.store.now.core.log c.calls.store.core.log c.lawful.ensures.log c.requires
     c.calls.invariant.9
 
-pub returns-then-not-keeps_too_many-clause-keeps : goal.returns-then-not-keeps_too_many-clause-keeps
-returns-then-not-keeps_too_many-clause-keeps g c = λ keeps.
-    prefixes_kept (g.D.CrashDisk.device c.args.store.now.disk) (g.D.CrashDisk.device c.calls.store.disk)
-    c.args.store.now.core c.calls.store.core (g.met.D.CrashDisk.whole c.calls.store.disk keeps)
-    c.an_open_store_keeps_its_files.ensures.now c.a_stop_leaves_a_beginning.ensures.files c.calls.invariant.7
+pub returns-then-not-has_too_many_uninstalled-clause-preserves : goal.returns-then-not-has_too_many_uninstalled-clause-preserves
+returns-then-not-has_too_many_uninstalled-clause-preserves g c = λ preserves.
+    prefixes_preserved (g.D.CrashDisk.device c.args.store.now.disk) (g.D.CrashDisk.device c.calls.store.disk)
+    c.args.store.now.core c.calls.store.core (g.met.D.CrashDisk.whole c.calls.store.disk preserves)
+    c.an_open_store_preserves_its_files.ensures.now c.a_stop_leaves_a_beginning.ensures.files c.calls.invariant.7
 
 pub calls-init : goal.calls-init
 calls-init g c =

@@ -3,7 +3,7 @@
 -- each call was one of those that were left
 use Rattle.std.proofs.Common.{◌≡◌}
 use Rattle.store_images.specs.Counts.{SameFrame}
-use Rattle.store_images.specs.Fetches.{KeepsFetches}
+use Rattle.store_images.specs.Fetches.{PreservesFetches}
 use Rattle.store_images.specs.Further.{LeavesOpen}
 use Rattle.store_images.specs.Settling.{SameNumbers, SpendsCalls, SpendsSettling, most_calls}
 use Rattle.store_images.specs.SettlingStops.{StayOpen}
@@ -13,7 +13,7 @@ abbrev pub invariant-calls : goal.invariant-calls
 invariant-calls g l = (l.store.core.out ≡ l.fn.store.core.out)
     × SameFrame l.fn.store.core l.store.core
     × SameNumbers l.fn.store.core l.store.core
-    × KeepsFetches l.fn.store.core l.store.core
+    × PreservesFetches l.fn.store.core l.store.core
     × (g.D.CrashDisk.keeps_model l.store.disk → g.D.CrashDisk.keeps_model l.fn.store.disk)
     × (l.store.boot ≡ l.fn.store.boot)
     × LeavesOpen (g.D.CrashDisk.device l.fn.store.disk) l.fn.store.core

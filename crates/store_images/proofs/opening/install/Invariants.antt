@@ -2,7 +2,7 @@
 use Rattle.std.proofs.Common.{◌≡◌, ◌<◌, ◌+◌, true, false, if◌then◌else◌}
 use Rattle.disk.specs.Device.{Content, Device}
 use Rattle.txn.specs.CoreLaw.{IsFresh}
-use Rattle.circ.specs.Log.Recovery.{IsUnspoiled}
+use Rattle.circ.specs.Log.Recovery.{IsCertain}
 use Rattle.store_promise.specs.Openings.{IsLater}
 use Rattle.store_images.specs.BringingHome.{BringsHome, unused}
 use Rattle.store_images.specs.Settling.{IsQuiet, calls_left}
@@ -23,11 +23,11 @@ invariant-calls g l = record {
       ≡ (g.D.CrashDisk.device l.fn.disk).failures;
   failed : l.core.log.broken ≡ true → (g.D.CrashDisk.device l.fn.disk).failures <
       (g.D.CrashDisk.device l.disk).failures;
-  clean : l.core.log.broken ≡ false → IsUnspoiled (g.D.CrashDisk.device l.fn.disk)
-      → IsUnspoiled (g.D.CrashDisk.device l.disk);
-  home : (before : Device) (raised : Content)
-      → BringsHome before raised (g.D.CrashDisk.device l.fn.disk) l.fn.core.log
-      → BringsHome before raised (g.D.CrashDisk.device l.disk) l.core.log;
+  clean : l.core.log.broken ≡ false → IsCertain (g.D.CrashDisk.device l.fn.disk)
+      → IsCertain (g.D.CrashDisk.device l.disk);
+  home : (before : Device) (incremented : Content)
+      → BringsHome before incremented (g.D.CrashDisk.device l.fn.disk) l.fn.core.log
+      → BringsHome before incremented (g.D.CrashDisk.device l.disk) l.core.log;
 }
 
 abbrev pub decreases-calls : goal.decreases-calls

@@ -18,7 +18,7 @@ returns-clause-bare g c =
     stays_unused c.args.core.now one.mid c.make_one.new.core one.io one.ok c.requires.bare one.goes one.back
 
 pub returns-clause-home : goal.returns-clause-home
-returns-clause-home g c = λ before raised brings.
+returns-clause-home g c = λ before incremented brings.
     let one = c.make_one.ensures.one (search rules) in
     let answered = one.made.within
     (subst (λ n. IsCallWithin n one.io.call) (sym c.requires.size) one.goes.within) in
@@ -31,13 +31,13 @@ returns-clause-home g c = λ before raised brings.
     let back = given_back (is_inst_out out one.io) (with_inst_back out one.ok) out new
     (inst_is_out log out one.io goes one.goes.next) one.back.log in
     let coming = called_home (image_of before) now next log out new one.io answered.answer one.ok
-    one.lawful.log c.lawful.ensures.tidy.changes goes one.goes.law answered.law
+    one.lawful.log c.lawful.ensures.well_formed.changes goes one.goes.law answered.law
     answered.ok_is back one.back.law
     (one.back.blocks ∙ one.goes.blocks) brings.coming in
     record {
       coming = coming;
-      keeps = home_stops before now next new raised c.lawful-2.ensures.log
-          (made_later now one.io answered.answer next answered.call) coming brings.keeps;
+      preserves = home_stops before now next new incremented c.lawful-2.ensures.log
+          (made_later now one.io answered.answer next answered.call) coming brings.preserves;
     }
 
 pub returns-clause-later : goal.returns-clause-later

@@ -10,13 +10,13 @@ use Rattle.store_promise.proofs.file_blocks.only_a_commit_changes_the_files.Goal
 pub returns-clause-commit : goal.returns-clause-commit
 returns-clause-commit c = blocks_now
 
-pub returns-clause-beside : goal.returns-clause-beside
-returns-clause-beside c = λ base old new beside. blocks_same base old new
+pub returns-clause-log_unchanged : goal.returns-clause-log_unchanged
+returns-clause-log_unchanged c = λ base old new log_unchanged. blocks_same base old new
     (record {
-      log = same_changes old.log new.log beside.log;
-      inodes = beside.inodes;
-      records = beside.records;
-      boot = beside.boot;
+      log = same_changes old.log new.log log_unchanged.log;
+      inodes = log_unchanged.inodes;
+      records = log_unchanged.records;
+      boot = log_unchanged.boot;
     })
 
 pub returns-clause-logger : goal.returns-clause-logger

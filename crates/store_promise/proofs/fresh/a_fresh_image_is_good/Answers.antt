@@ -37,7 +37,7 @@ returns c = λ g moment image lawful now fresh.
     let starts_at : start_in image ≡ 0 = starts g moment image fresh in
     let ends_at : end_in image ≡ 0 = ends g moment image fresh in
     let empty : (block : ℕ) → over image block ≡ image block =
-    λ block. c.an_empty_log_overlays_nothing.ensures image block (starts_at ∙ sym ends_at) in
+    λ block. c.an_empty_log_hides_nothing.ensures image block (starts_at ∙ sym ends_at) in
     record {
       super = record { geometry = g; boot = 0 };
       is_super = subst (λ bytes. IsSuper bytes (record { geometry = g; boot = 0 })) (sym fresh.super)

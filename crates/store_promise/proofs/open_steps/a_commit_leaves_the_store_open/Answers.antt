@@ -1,11 +1,11 @@
-use Rattle.store_promise.proofs.OpenCommits.{led, open_with}
+use Rattle.store_promise.proofs.OpenCommits.{transition, open_with}
 use Rattle.store_promise.proofs.open_steps.a_commit_leaves_the_store_open.Goals as goal
 
 pub returns : goal.returns
 returns c =
     λ base d old new logging installing boot first last entries tx place plan entry since took sound tells.
     let one_geometry = c.counts_make_one_geometry.ensures in
-    let next = led base d old new logging installing boot first last entries tx place plan since
+    let next = transition base d old new logging installing boot first last entries tx place plan since
     took entry tells
     one_geometry in (
       next.0,

@@ -51,7 +51,7 @@ returns-clause-taken c = λ base d old new io logging boot first last entries si
     }) d d logging pending.idle logging (pending.out io) boot first last entries since sound
     (goes d base logging since.over.agrees)
     (subst (λ (log : Log). IsReadable d log (pending.out io)) (sym log_is)
-    (c.the_installer_keeps_what_may_be_read.ensures.goes_out d old.log io (not_broken old.log.broken _ may)
+    (c.the_installer_preserves_what_may_be_read.ensures.goes_out d old.log io (not_broken old.log.broken _ may)
     since.over.readable))
 
 pub returns-clause-made : goal.returns-clause-made
@@ -59,10 +59,10 @@ returns-clause-made c = λ base d later core io answer logging boot first last e
     still_open base core core
     (record { log = same_changes core.log core.log refl; inodes = refl; records = refl; boot = refl })
     d later logging (pending.out io) logging (pending.was_made io answer) boot first last entries since
-    (record { lawful = since.over.lawful; tidy = since.over.tidy; home = since.over.files.home })
-    (c.a_call_of_the_installer_keeps_agreement.ensures.is_made d later io answer made base core.log logging
+    (record { lawful = since.over.lawful; well_formed = since.over.well_formed; home = since.over.files.home })
+    (c.a_call_of_the_installer_preserves_agreement.ensures.is_made d later io answer made base core.log logging
     since.over.lawful since.over.agrees)
-    (c.the_installer_keeps_what_may_be_read.ensures.is_made d later base core.log io answer logging
+    (c.the_installer_preserves_what_may_be_read.ensures.is_made d later base core.log io answer logging
     since.over.lawful made since.over.agrees since.over.readable)
 
 pub returns-clause-given_back : goal.returns-clause-given_back
@@ -81,4 +81,4 @@ returns-clause-given_back c =
     (back d base answer logging answered since.over.agrees)
     (subst (λ (log : Log). IsReadable d log pending.idle) (sym is_back)
     (subst (λ (a : Bool). IsReadable d (with_inst_back old.log a) pending.idle) answered
-    (c.the_installer_keeps_what_may_be_read.ensures.comes_back d old.log io answer since.over.readable)))
+    (c.the_installer_preserves_what_may_be_read.ensures.comes_back d old.log io answer since.over.readable)))

@@ -27,17 +27,17 @@ returns-clause-taken c = λ base d old new io installing boot first last entries
     }) d d pending.idle installing (pending.out io) installing boot first last entries since sound
     (goes d base installing since.over.agrees)
     (subst (λ (log : Log). IsReadable d log installing) (sym log_is)
-    (c.the_logger_keeps_what_may_be_read.ensures.goes_out d old.log installing since.over.readable))
+    (c.the_logger_preserves_what_may_be_read.ensures.goes_out d old.log installing since.over.readable))
 
 pub returns-clause-made : goal.returns-clause-made
 returns-clause-made c = λ base d later core io answer installing boot first last entries since made.
     still_open base core core
     (record { log = same_changes core.log core.log refl; inodes = refl; records = refl; boot = refl })
     d later (pending.out io) installing (pending.was_made io answer) installing boot first last entries since
-    (record { lawful = since.over.lawful; tidy = since.over.tidy; home = since.over.files.home })
-    (c.a_call_of_the_logger_keeps_agreement.ensures.is_made d later io answer made base core.log installing
+    (record { lawful = since.over.lawful; well_formed = since.over.well_formed; home = since.over.files.home })
+    (c.a_call_of_the_logger_preserves_agreement.ensures.is_made d later io answer made base core.log installing
     since.over.lawful since.over.agrees)
-    (c.the_logger_keeps_what_may_be_read.ensures.is_made d later base core.log io answer installing
+    (c.the_logger_preserves_what_may_be_read.ensures.is_made d later base core.log io answer installing
     since.over.lawful made since.over.agrees since.over.readable)
 
 pub returns-clause-given_back : goal.returns-clause-given_back
@@ -52,4 +52,4 @@ returns-clause-given_back c =
     (back d base answer installing answered since.over.agrees)
     (subst (λ (log : Log). IsReadable d log installing) (sym log_is)
     (readable_back d old.log installing (is_log_out old.log io) ok since.over.readable
-    (c.the_logger_keeps_what_may_be_read.ensures.comes_back d old.log ok installing since.over.readable)))
+    (c.the_logger_preserves_what_may_be_read.ensures.comes_back d old.log ok installing since.over.readable)))

@@ -2,7 +2,7 @@ use Rattle.std.proofs.Common.{◌≢◌, Bool, Option, Some, None, refl, subst}
 use Rattle.circ.specs.declared.log.calls.IoCall.{IoCall}
 use Rattle.store_promise.specs.declared.events.Step.{Step}
 use Rattle.store_promise.specs.declared.events.Step.TheVariants as step
-use Rattle.store_promise.specs.LogTold.{out}
+use Rattle.store_promise.specs.LogState.{out}
 use Rattle.store_promise.specs.Schedule.{IsStepOfInstIo, IsStepOfLogIo}
 use Rattle.store_promise.proofs.RulesAre.{own_step}
 use Rattle.store_promise.proofs.steps_made.a_call_that_is_out_is_made.Goals as goal
@@ -52,12 +52,12 @@ by_installer call (Some (step.InstDone ok)) is other = is
 
 pub returns-clause-logging : goal.returns-clause-logging
 returns-clause-logging c =
-    λ before later tree first workers index events t call made is_event is_made is_out other kept.
+    λ before later tree first workers index events t call made is_event is_made is_out other is_preserved.
     by_log call made (subst (λ at. IsStepOfLogIo at made) is_out
-    (own_step kept.setting workers _ _ _ (kept.replies.taken.each index _ made is_event is_made) tt)) other
+    (own_step is_preserved.setting workers _ _ _ (is_preserved.replies.taken.each index _ made is_event is_made) tt)) other
 
 pub returns-clause-installing : goal.returns-clause-installing
 returns-clause-installing c = λ before later tree first workers index events t call made is_event is_made is_out
-    other kept.
+    other is_preserved.
     by_installer call made (subst (λ at. IsStepOfInstIo at made) is_out
-    (own_step kept.setting workers _ _ _ (kept.replies.taken.each index _ made is_event is_made) tt)) other
+    (own_step is_preserved.setting workers _ _ _ (is_preserved.replies.taken.each index _ made is_event is_made) tt)) other

@@ -11,7 +11,7 @@ same_named named others a b same = cc
 
 pub returns : goal.returns
 returns c =
-    λ before later tree first workers index events t entry named answer block there made within lacks kept.
-    let own = kept.replies.changes index entry there in
+    λ before later tree first workers index events t entry named answer block there made within lacks is_preserved.
+    let own = is_preserved.replies.changes index entry there in
     let same = same_named named own.named answer _ (sym made ∙ own.step) in
     own.unnamed block within (sym (ap (λ (blocks : List BlockNo). is_among block blocks) same) ∙ lacks)

@@ -2,15 +2,15 @@
 use Rattle.std.proofs.Common.{◌≡◌, ℕ, ◌<◌, ◌≤◌, inl, inr, arith, true, false, ap}
 use Rattle.std.proofs.lemmas.Bool.{cases_lt}
 use Rattle.disk.specs.declared.block.BlockNo.{BlockNo}
-use Rattle.store_promise.specs.Progress.{Progress, Idle, Wished, has_taken, is_fetching}
-use Rattle.store_promise.specs.declared.events.Wish.TheVariants as wish
-use Rattle.store_promise.specs.Schedule.{told_before, wish_of}
-use Rattle.store_promise.proofs.Told.{planned_step, idle_beyond, only_of_some, wish_is}
+use Rattle.store_promise.specs.Progress.{Progress, Idle, RangeRequest, has_taken, is_fetching}
+use Rattle.store_promise.specs.declared.events.LockAnswer.TheVariants as lock_answer
+use Rattle.store_promise.specs.Schedule.{state_before, range_request_at}
+use Rattle.store_promise.proofs.RunStates.{planned_step, idle_beyond, only_of_some, lock_answer_is}
 use Rattle.store_promise.proofs.steps_made.one_worker_is_never_busy.Goals as goal
 
-takes_nothing : (wished : Wished) (progress : Progress) → progress ≡ Idle → has_taken wished progress ≡ true → ⊥
-takes_nothing wished progress idle takes =
-    let none : has_taken wished progress ≡ false = ap (has_taken wished) idle in cc
+takes_nothing : (request : RangeRequest) (progress : Progress) → progress ≡ Idle → has_taken request progress ≡ true → ⊥
+takes_nothing request progress idle takes =
+    let none : has_taken request progress ≡ false = ap (has_taken request) idle in cc
 
 fetches_nothing : (block : BlockNo) (progress : Progress) → progress ≡ Idle
     → is_fetching block progress ≡ true → ⊥
@@ -25,26 +25,26 @@ beyond worker other less differs = elim (cases_lt other 1) [
 
 pub returns-clause-busy : goal.returns-clause-busy
 returns-clause-busy c = λ before later tree first index worker events t job begun addr mode is_event is_step
-    planning kept.
-    let less : worker < 1 = only_of_some kept.setting 1 events t.steps kept.replies.taken index worker _ is_event
+    planning is_preserved.
+    let less : worker < 1 = only_of_some is_preserved.setting 1 events t.steps is_preserved.replies.taken index worker _ is_event
     is_step in
-    let step = planned_step kept.setting 1 events t.steps kept.replies.taken index worker job begun _ is_event less
+    let step = planned_step is_preserved.setting 1 events t.steps is_preserved.replies.taken index worker job begun _ is_event less
     is_step planning in
-    let cause = wish_is kept.setting (told_before events t.steps index) worker begun begun.left addr mode wish.Busy
+    let cause = lock_answer_is is_preserved.setting (state_before events t.steps index) worker begun begun.left addr mode lock_answer.Busy
     step in
-    takes_nothing (wish_of addr mode) _
-    (idle_beyond kept.setting 1 events t.steps kept.replies.taken cause.other
+    takes_nothing (range_request_at addr mode) _
+    (idle_beyond is_preserved.setting 1 events t.steps is_preserved.replies.taken cause.other
     (beyond worker cause.other less cause.differs) index) cause.so
 
 pub returns-clause-loading : goal.returns-clause-loading
 returns-clause-loading c = λ before later tree first index worker events t job begun addr mode is_event is_step
-    planning kept.
-    let less : worker < 1 = only_of_some kept.setting 1 events t.steps kept.replies.taken index worker _ is_event
+    planning is_preserved.
+    let less : worker < 1 = only_of_some is_preserved.setting 1 events t.steps is_preserved.replies.taken index worker _ is_event
     is_step in
-    let step = planned_step kept.setting 1 events t.steps kept.replies.taken index worker job begun _ is_event less
+    let step = planned_step is_preserved.setting 1 events t.steps is_preserved.replies.taken index worker job begun _ is_event less
     is_step planning in
-    let cause = wish_is kept.setting (told_before events t.steps index) worker begun begun.left addr mode
-    wish.Loading step in
+    let cause = lock_answer_is is_preserved.setting (state_before events t.steps index) worker begun begun.left addr mode
+    lock_answer.Loading step in
     fetches_nothing addr.block _
-    (idle_beyond kept.setting 1 events t.steps kept.replies.taken cause.other
+    (idle_beyond is_preserved.setting 1 events t.steps is_preserved.replies.taken cause.other
     (beyond worker cause.other less cause.differs) index) cause.so

@@ -15,30 +15,30 @@ returns-clause-call c =
           let new : Blocks = w.settle.new.blocks in
           let len : length new ≡ length now = w.settle.ensures.len ∙ ap length w.deref_mut.ensures.value in
           let same : past_of c.if-is_ok.self ≡ past_of c.args.self.now = ap past_of w.self-is in
-          let blocks : blocks_of c.note.new.self ≡ new = c.note.ensures.blocks ∙ ap blocks_of w.self-is
+          let blocks : blocks_of c.trace.new.self ≡ new = c.trace.ensures.blocks ∙ ap blocks_of w.self-is
           ∙ with_items_is c.args.self.now.blocks new (w.settle.ensures.len ∙ w.deref_mut.ensures.len) in
-          let past : past_of c.note.new.self ≡ past_of c.args.self.now
+          let past : past_of c.trace.new.self ≡ past_of c.args.self.now
           ++ (now, record { call = Barrier c.args.side; result = c.outcome-result.result }) ∷ [] =
-          rw (c.of-before.ensures, same) at c.note.ensures.past in
+          rw (c.of-before.ensures, same) at c.trace.ensures.past in
           moved (λ (d : Device). HasSettled (memory_device c.args.self.now) c.args.side
           c.outcome-result.result d)
-          new (blocks_of c.note.new.self) (past_of c.args.self.now
+          new (blocks_of c.trace.new.self) (past_of c.args.self.now
           ++ (now, record { call = Barrier c.args.side; result = c.outcome-result.result }) ∷ [])
-          (past_of c.note.new.self) blocks past
+          (past_of c.trace.new.self) blocks past
           (has_settled now new (past_of c.args.self.now) c.args.side c.outcome-result.result len
           (λ block. settles_if_ok c.args.side block (get_or now block []) (get_or new block [])
           c.outcome-result.result (sym c.is_ok.ensures.value
           ∙ w.if-is_ok.true) (rw w.deref_mut.ensures.value at w.settle.ensures.contents block)))
       | else-is_ok w ↦
-          let past : past_of c.note.new.self ≡ past_of c.args.self.now
+          let past : past_of c.trace.new.self ≡ past_of c.args.self.now
           ++ (now, record { call = Barrier c.args.side; result = c.outcome-result.result }) ∷ [] =
-          rw (c.of-before.ensures, w.self-is) at c.note.ensures.past in
+          rw (c.of-before.ensures, w.self-is) at c.trace.ensures.past in
           moved (λ (d : Device). HasSettled (memory_device c.args.self.now) c.args.side
           c.outcome-result.result d)
-          now (blocks_of c.note.new.self) (past_of c.args.self.now
+          now (blocks_of c.trace.new.self) (past_of c.args.self.now
           ++ (now, record { call = Barrier c.args.side; result = c.outcome-result.result }) ∷ [])
-          (past_of c.note.new.self)
-          (c.note.ensures.blocks ∙ ap blocks_of w.self-is) past
+          (past_of c.trace.new.self)
+          (c.trace.ensures.blocks ∙ ap blocks_of w.self-is) past
           (has_settled now now (past_of c.args.self.now) c.args.side c.outcome-result.result refl
           (λ block. settles_if_err c.args.side block (get_or now block []) (get_or now block [])
           c.outcome-result.result (sym c.is_ok.ensures.value ∙ w.if-is_ok.false) refl))

@@ -7,13 +7,13 @@ use Rattle.disk.proofs.mem_disk.MemDiskCrashDisk.read.Goals as goal
 
 pub returns-clause-call : goal.returns-clause-call
 returns-clause-call c =
-    let past : past_of c.note.new.self ≡ past_of c.args.self.now
+    let past : past_of c.trace.new.self ≡ past_of c.args.self.now
     ++ (blocks_of c.args.self.now, record { call = Read c.args.block; result = c.outcome-result.result })
     ∷ [] =
-    rw c.of-before.ensures at c.note.ensures.past in
+    rw c.of-before.ensures at c.trace.ensures.past in
     moved (λ (d : Device). HasRead (memory_device c.args.self.now) d)
-    (blocks_of c.args.self.now) (blocks_of c.note.new.self) (past_of c.args.self.now
+    (blocks_of c.args.self.now) (blocks_of c.trace.new.self) (past_of c.args.self.now
     ++ (blocks_of c.args.self.now, record { call = Read c.args.block; result = c.outcome-result.result })
-    ∷ []) (past_of c.note.new.self)
-    c.note.ensures.blocks past
+    ∷ []) (past_of c.trace.new.self)
+    c.trace.ensures.blocks past
     (has_read (blocks_of c.args.self.now) (past_of c.args.self.now) c.args.block c.outcome-result.result)

@@ -7,9 +7,9 @@ use Rattle.layout.specs.Decode.{numbers_in}
 use Rattle.layout.specs.Fields.{count_of}
 use Rattle.layout.specs.Parts.{content_in}
 use Rattle.circ.specs.Log.Recovery.{image_of}
-use Rattle.circ.proofs.LogLemmas.OnlyRead.{no_read, reads_then, unspoiled_then}
-use Rattle.image_read.specs.Overlays.LaidOver.{laid_over}
-use Rattle.image_read.specs.Files.Far.{IsRowMapped}
+use Rattle.circ.proofs.LogLemmas.OnlyRead.{no_read, reads_then, certain_then}
+use Rattle.image_read.specs.LoggedImage.WithOverlay.{with_overlay}
+use Rattle.image_read.specs.Files.RowNumbers.{IsRowMapped}
 use Rattle.image_read.proofs.FilesLemmas.Then.{contents_then}
 use Rattle.image_contents.proofs.LinesLemmas.Counted.{counted_more}
 use Rattle.image_contents.proofs.lines.lines.count_rows.Goals as goal
@@ -18,22 +18,22 @@ pub rows-init : goal.rows-init
 rows-init g c = record {
   reads = no_read (g.D.CrashDisk.device c.args.disk.now);
   failures = refl;
-  model = λ keeps. keeps;
+  model = λ preserves. preserves;
   few = omega arith;
-  counted = λ keeps unspoiled. refl;
+  counted = λ preserves certain. refl;
 }
 
 pub count_row-requires : goal.count_row-requires
 count_row-requires g c = omega (arith, c.requires.size, c.rows.invariant.reads.size)
 
 pub returns-in_err-row-clause-refused : goal.returns-in_err-row-clause-refused
-returns-in_err-row-clause-refused g c = λ keeps unspoiled range rows.
+returns-in_err-row-clause-refused g c = λ preserves certain range rows.
     let first : Device = g.D.CrashDisk.device c.args.disk.now in
     let before : Device = g.D.CrashDisk.device c.rows.disk in
     let inv = c.rows.invariant in
     let geometry = c.args.geometry.now in
     let same = contents_then geometry c.args.overlay.now first before inv.reads in
-    c.in_err-row.ensures.refused keeps (unspoiled_then first before inv.reads unspoiled) (search rules)
+    c.in_err-row.ensures.refused preserves (certain_then first before inv.reads certain) (search rules)
     (subst (λ k. IsRowMapped geometry k (get_or c.args.inner.now c.rows.index 0)) (sym same)
     (rows c.rows.index c.rows-test.true))
 
@@ -45,18 +45,18 @@ rows-preserved g c =
     let inv = c.rows.invariant in
     let geometry = c.args.geometry.now in
     let logged = c.args.overlay.now in
-    let content : Image = content_in geometry (laid_over logged (image_of first)) in
+    let content : Image = content_in geometry (with_overlay logged (image_of first)) in
     let inner = c.args.inner.now in
     let index = c.rows.index in
     let same = contents_then geometry logged first before inv.reads in
     record {
       reads = reads_then first before after inv.reads c.count_row.ensures.reads;
       failures = c.in_ok-row.ensures.failure ∙ inv.failures;
-      model = λ keeps. inv.model (c.count_row.ensures.model keeps);
+      model = λ preserves. inv.model (c.count_row.ensures.model preserves);
       few = (let so_far = inv.few in let more = c.in_ok-row.ensures.few in omega (arith, so_far, more));
-      counted = λ keeps unspoiled.
-          let so_far = inv.counted (c.count_row.ensures.model keeps) unspoiled in
-          let row = c.in_ok-row.ensures.blocks keeps (unspoiled_then first before inv.reads unspoiled) in
+      counted = λ preserves certain.
+          let so_far = inv.counted (c.count_row.ensures.model preserves) certain in
+          let row = c.in_ok-row.ensures.blocks preserves (certain_then first before inv.reads certain) in
           let here = row ∙ ap (λ k. count_of (numbers_in k (get_or inner index 0))) same in
           (λ i. so_far i + here i) ∙ sym (counted_more content inner index c.rows-test.true);
     }
@@ -67,10 +67,10 @@ returns-clause-few g c =
     omega (arith, few, c.requires.count, c.rows-test.false, c.rows.auto.index-end)
 
 pub returns-clause-blocks : goal.returns-clause-blocks
-returns-clause-blocks g c = λ keeps unspoiled.
+returns-clause-blocks g c = λ preserves certain.
     let content : Image = content_in c.args.geometry.now
-    (laid_over c.args.overlay.now (image_of (g.D.CrashDisk.device c.args.disk.now))) in
+    (with_overlay c.args.overlay.now (image_of (g.D.CrashDisk.device c.args.disk.now))) in
     let inner = c.args.inner.now in
     let end = c.rows-test.false in
-    c.rows.invariant.counted keeps unspoiled
+    c.rows.invariant.counted preserves certain
     ∙ ap (λ l. count_of (flat_map (numbers_in content) l)) (take_all c.rows.index inner (omega (arith, end)))

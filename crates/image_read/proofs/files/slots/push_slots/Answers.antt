@@ -18,7 +18,7 @@ returns-in_err-push_slot-clause-refused c =
       | inl memory ↦ inl memory
       | inr refused ↦ inr (
         refused.0,
-        refused_there c.args.inodes c.args.block.now SLOTS_PER_BLOCK c.places.place
+        refused_there c.args.inodes c.args.block.now SLOTS_PER_BLOCK c.places.index_within
             c.bytes_in.result.now c.places-test.true c.bytes_in.ensures.bytes refused.1,
       )
     ] in
@@ -27,6 +27,6 @@ returns-in_err-push_slot-clause-refused c =
 
 pub places-preserved : goal.places-preserved
 places-preserved c =
-    one_pushed c.args.inodes c.args.block.now c.places.place c.args.slots.now.items c.places.slots.items
+    one_pushed c.args.inodes c.args.block.now c.places.index_within c.args.slots.now.items c.places.slots.items
     c.push_slot.new.slots.items c.bytes_in.result.now c.places.invariant c.bytes_in.ensures.bytes
     c.in_ok-push_slot.ensures.pushed

@@ -3,24 +3,24 @@ use Rattle.disk.specs.Crash.{Image}
 use Rattle.disk.specs.Device.{Device}
 use Rattle.layout.specs.Geometry.{table_at}
 use Rattle.circ.specs.Log.Recovery.{image_of}
-use Rattle.circ.proofs.LogLemmas.OnlyRead.{reads_then, unspoiled_then}
-use Rattle.image_read.specs.Overlays.LaidOver.{laid_over}
+use Rattle.circ.proofs.LogLemmas.OnlyRead.{reads_then, certain_then}
+use Rattle.image_read.specs.LoggedImage.WithOverlay.{with_overlay}
 use Rattle.image_read.specs.declared.parts.fault.PartFault.TheVariants.{Range}
-use Rattle.image_read.proofs.PartsLemmas.LaidThen.{laid_then}
+use Rattle.image_read.proofs.PartsLemmas.OverlayThen.{overlay_then}
 use Rattle.image_read.proofs.PartsLemmas.Pushed.{block_more, refused_there}
 use Rattle.image_read.proofs.parts.table.read_table.Goals as goal
 
 pub returns-in_err-push_inodes-clause-refused : goal.returns-in_err-push_inodes-clause-refused
-returns-in_err-push_inodes-clause-refused g c = λ keeps unspoiled range.
+returns-in_err-push_inodes-clause-refused g c = λ preserves certain range.
     let first : Device = g.D.CrashDisk.device c.args.disk.now in
     let before : Device = g.D.CrashDisk.device c.indexes.disk in
     let inv = c.indexes.invariant in
     let geometry = c.args.geometry.now in
-    let image : Image = laid_over c.args.overlay.now (image_of first) in
+    let image : Image = with_overlay c.args.overlay.now (image_of first) in
     let is : c.as_slice.result.now ≡ image (table_at geometry.blocks geometry.inodes + c.indexes.index) =
     c.as_slice.ensures.bytes
-    ∙ c.in_ok-read.ensures.laid keeps (unspoiled_then first before inv.reads unspoiled)
-    ∙ laid_then c.args.overlay.now first before inv.reads (c.inode_table.result.0 + c.indexes.index)
+    ∙ c.in_ok-read.ensures.overlaid_content preserves (certain_then first before inv.reads certain)
+    ∙ overlay_then c.args.overlay.now first before inv.reads (c.inode_table.result.0 + c.indexes.index)
     ∙ ap (λ n. image (n + c.indexes.index)) c.inode_table.ensures in
     let fault : c.in_err-push_inodes.field-0.0 ≡ Range = search rules in
     elim c.in_err-push_inodes.ensures.refused [
@@ -36,20 +36,20 @@ indexes-preserved g c =
     let after : Device = g.D.CrashDisk.device c.read.new.disk in
     let inv = c.indexes.invariant in
     let geometry = c.args.geometry.now in
-    let image : Image = laid_over c.args.overlay.now (image_of first) in
+    let image : Image = with_overlay c.args.overlay.now (image_of first) in
     record {
       reads = reads_then first before after inv.reads c.read.ensures.reads;
       failures = c.in_ok-read.ensures.failure ∙ inv.failures;
-      model = λ keeps. inv.model (c.read.ensures.model keeps);
+      model = λ preserves. inv.model (c.read.ensures.model preserves);
       long = omega (arith, inv.long, c.in_ok-push_inodes.ensures.pushed.long);
-      table = λ keeps unspoiled.
+      table = λ preserves certain.
           let is : c.as_slice.result.now ≡ image (table_at geometry.blocks geometry.inodes + c.indexes.index) =
           c.as_slice.ensures.bytes
-          ∙ c.in_ok-read.ensures.laid keeps (unspoiled_then first before inv.reads unspoiled)
-          ∙ laid_then c.args.overlay.now first before inv.reads (c.inode_table.result.0 + c.indexes.index)
+          ∙ c.in_ok-read.ensures.overlaid_content preserves (certain_then first before inv.reads certain)
+          ∙ overlay_then c.args.overlay.now first before inv.reads (c.inode_table.result.0 + c.indexes.index)
           ∙ ap (λ n. image (n + c.indexes.index)) c.inode_table.ensures in
           block_more geometry image c.indexes.index c.as_slice.result.now is c.indexes.table.items
-          c.push_inodes.new.table.items (inv.table (c.read.ensures.model keeps) unspoiled)
+          c.push_inodes.new.table.items (inv.table (c.read.ensures.model preserves) certain)
           c.in_ok-push_inodes.ensures.pushed;
     }
 

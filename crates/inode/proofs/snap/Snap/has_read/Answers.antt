@@ -1,5 +1,5 @@
 use Rattle.std.proofs.Common.{sym}
-use Rattle.inode.proofs.HadAlone.{seen_by}
+use Rattle.inode.proofs.HadExclusive.{seen_by}
 use Rattle.inode.proofs.snap.Snap.has_read.Goals as goal
 
 pub returns-in-Some : goal.returns-in-Some

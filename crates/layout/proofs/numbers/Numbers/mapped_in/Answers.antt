@@ -13,10 +13,10 @@ returns-then-counted-data-clause-refused c =
     let from = c.data-data.ensures in
     let low = c.if-counted-data.true in
     let most = lawful.0.1 in
-    let room = lawful.1.3 in (
+    let has_space = lawful.1.3 in (
       refl,
       before_data g (numbers_at INDIRECT_INDEXES 0 c.args.block.now.bytes) c.counted-counted.result
-          c.counted-counted.ensures (omega (arith, most, room)) (omega (arith, from, low)),
+          c.counted-counted.ensures (omega (arith, most, has_space)) (omega (arith, from, low)),
     )
 
 pub returns-then-geometry-counted-clause-refused : goal.returns-then-geometry-counted-clause-refused

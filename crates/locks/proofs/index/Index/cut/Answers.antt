@@ -14,14 +14,14 @@ pub loop-count-preserved : goal.loop-count-preserved
 loop-count-preserved c =
     let count = c.loop-count.count in
     let within = c.loop-count.invariant.within in
-    let room = c.loop-count.invariant.room in
-    let kept = c.take_back.ensures.capacity in
+    let has_space = c.loop-count.invariant.has_space in
+    let is_preserved = c.take_back.ensures.capacity in
     record {
       from = omega arith;
       within = omega (arith, within);
       long = ap (λ (names : List ℕ). length names) c.take_back.ensures.last
           ∙ length-set c.loop-count.self.last.items _ _ ∙ c.loop-count.invariant.long;
-      room = omega (arith, room, kept);
+      has_space = omega (arith, has_space, is_preserved);
       index = subst (λ (before : List ℕ). IsIndex (numbers (take (count - 1) c.args.holds.now))
           c.take_back.new.self.last.items before) (sym c.take_back.ensures.before)
           (subst (λ (last : List ℕ). IsIndex (numbers (take (count - 1) c.args.holds.now)) last

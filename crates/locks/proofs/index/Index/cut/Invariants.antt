@@ -8,7 +8,7 @@ invariant-loop-count l = record {
   from : l.from ≤ l.count;
   within : l.count ≤ length l.holds;
   long : length l.self.last.items ≡ length l.fn.self.last.items;
-  room : vec_capacity l.fn.self.before ≤ vec_capacity l.self.before;
+  has_space : vec_capacity l.fn.self.before ≤ vec_capacity l.self.before;
   index : IsIndex (numbers (take l.count l.holds)) l.self.last.items l.self.before.items;
 }
 

@@ -8,11 +8,11 @@ pub returns-then-is_of : goal.returns-then-is_of
 returns-then-is_of c =
     let of = c.is_of.ensures.0 c.if-is_of.true in
     is_last (numbers c.args.holds.now) c.args.self.now.last.items c.args.self.now.before.items c.args.block.0
-    c.noted-name.result c.requires c.noted-name.ensures of.some of.within of.there
+    c.tracked-name.result c.requires c.tracked-name.ensures of.some of.within of.there
 
 pub returns-else-is_of : goal.returns-else-is_of
 returns-else-is_of c =
     is_none (numbers c.args.holds.now) c.args.self.now.last.items c.args.self.now.before.items c.args.block.0
-    c.noted-name.result c.requires c.noted-name.ensures
+    c.tracked-name.result c.requires c.tracked-name.ensures
     (λ some within there. true≢false (sym (c.is_of.ensures.1 (record { some = some; within = within; there = there }))
     ∙ c.if-is_of.false))

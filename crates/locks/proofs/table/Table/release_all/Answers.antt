@@ -1,7 +1,7 @@
 use Rattle.std.proofs.Common.{not, nat_eq, subst, sym}
-use Rattle.txn_law.specs.Tidy.{AreApart}
+use Rattle.txn_law.specs.WellFormed.{AreApart}
 use Rattle.txn_law.specs.declared.hold.Hold.{Hold}
-use Rattle.txn_law.proofs.Tidied.{apart_filter}
+use Rattle.txn_law.proofs.StaysWellFormed.{apart_filter}
 use Rattle.locks.proofs.table.Table.release_all.Goals as goal
 
 pub invariant_of-self : goal.invariant_of-self

@@ -5,4 +5,4 @@ use Rattle.nfs_spec.proofs.model.setattr.each_setattr_has_a_step.Goals as goal
 pub returns : goal.returns
 returns c tree ctx handle wanted guard =
     let set = set_answer tree ctx wanted guard (find_file tree handle) in
-    (set.outcome, set.told, set.next, set.is)
+    (set.outcome, set.file_attributes, set.next, set.is)

@@ -8,13 +8,13 @@ use Rattle.nfs_spec.specs.Model.Refused.{refused}
 use Rattle.nfs_spec.specs.Model.Tree.{Tree}
 use Rattle.nfs_spec.specs.Procedures.Kinds.{is_failure}
 use Rattle.nfs_spec.specs.Procedures.Step.{step}
-use Rattle.nfs_spec.proofs.ProceduresLemmas.Failures.{no_failure, told_stable}
+use Rattle.nfs_spec.proofs.ProceduresLemmas.Failures.{no_failure, stable_tells_failure}
 use Rattle.nfs_spec.proofs.procedures.calls.no_stable_answer_tells_a_failure.Goals as goal
 
 never : (failure : Status) (tree next : Tree) (ctx : Ctx) (asked : Call) → is_failure failure ≡ true
     → is_answered_stable asked ≡ true → step tree ctx asked (refused failure asked) next → ⊥
 never failure tree next ctx asked fails stable steps =
-    let no : true ≡ false = sym (told_stable failure asked fails stable)
+    let no : true ≡ false = sym (stable_tells_failure failure asked fails stable)
     ∙ no_failure tree next ctx steps.new asked (refused failure asked) steps.leads in
     cc
 

@@ -6,7 +6,7 @@ use Rattle.objects.specs.Indexed.{IsIndex, numbers}
 use Rattle.objects.specs.Present.{IsOnce, present_of}
 use Rattle.objects.specs.declared.present.Present.{Present}
 use Rattle.objects.proofs.Indexed.{absent_at, numbers-push, pushed, reached}
-use Rattle.objects.proofs.Kept.{none_of}
+use Rattle.objects.proofs.ArePreserved.{none_of}
 use Rattle.objects.proofs.Residents.{once_push}
 use Rattle.objects.proofs.blocks.Blocks.bring.Goals as goal
 

@@ -5,7 +5,7 @@ use Rattle.objects.specs.Indexed.{IsIndex, numbers}
 use Rattle.objects.specs.Present.{IsOnce, renewed}
 use Rattle.objects.specs.declared.present.Present.{Present}
 use Rattle.objects.proofs.Indexed.{numbers-renewed}
-use Rattle.objects.proofs.Kept.{once_renewed}
+use Rattle.objects.proofs.ArePreserved.{once_renewed}
 use Rattle.objects.proofs.blocks.Blocks.renew.Goals as goal
 
 pub invariant_of-self : goal.invariant_of-self

@@ -3,8 +3,8 @@ use Rattle.disk.specs.declared.block.BlockNo.{BlockNo}
 use Rattle.objects.specs.Pins.{Residents, count_in, pins_of, spared}
 use Rattle.objects.specs.Present.{filled}
 use Rattle.objects.specs.declared.present.Present.{Present}
-use Rattle.objects.specs.Unneeded.{AreNoted}
-use Rattle.objects.proofs.Noted.{noted_filled, noted_pinned}
+use Rattle.objects.specs.Unneeded.{AreTracked}
+use Rattle.objects.proofs.Tracked.{tracked_filled, tracked_pinned}
 use Rattle.objects.proofs.Wanted.{spared_all}
 use Rattle.objects.proofs.residency.Residency.fetched.Goals as goal
 
@@ -20,12 +20,12 @@ returns-else-count_of-eq0 c =
           }) c.self.view_is,
     )
 
-pub keep_clean-requires-clause-noted : goal.keep_clean-requires-clause-noted
-keep_clean-requires-clause-noted c =
+pub keep_clean-requires-clause-tracked : goal.keep_clean-requires-clause-tracked
+keep_clean-requires-clause-tracked c =
     let numbers : List ℕ = c.self.inside.recent in
     let pins : BlockNo → ℕ = count_in c.self.inside.pins.entries in
-    subst (AreNoted (c.args.block.0 ∷ numbers) pins) (sym c.fill.ensures)
-    (noted_filled c.args.block numbers pins c.args.content c.self.inside.blocks c.self.invariant.noted)
+    subst (AreTracked (c.args.block.0 ∷ numbers) pins) (sym c.fill.ensures)
+    (tracked_filled c.args.block numbers pins c.args.content c.self.inside.blocks c.self.invariant.tracked)
 
 pub invariant_of-self-else-count_of-eq0 : goal.invariant_of-self-else-count_of-eq0
 invariant_of-self-else-count_of-eq0 c =
@@ -35,7 +35,7 @@ invariant_of-self-else-count_of-eq0 c =
     (let count = c.count_of.ensures in let more = c.if-count_of-eq0.false in omega (arith, count, more)) in
     record {
       few = c.self.invariant.few;
-      noted = subst (AreNoted numbers pins) (sym c.fill.ensures)
-          (noted_pinned c.args.block numbers pins some (filled c.self.inside.blocks c.args.block c.args.content)
-          (noted_filled c.args.block numbers pins c.args.content c.self.inside.blocks c.self.invariant.noted));
+      tracked = subst (AreTracked numbers pins) (sym c.fill.ensures)
+          (tracked_pinned c.args.block numbers pins some (filled c.self.inside.blocks c.args.block c.args.content)
+          (tracked_filled c.args.block numbers pins c.args.content c.self.inside.blocks c.self.invariant.tracked));
     }

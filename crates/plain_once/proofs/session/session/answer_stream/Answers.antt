@@ -4,7 +4,7 @@ use Rattle.plain_once.proofs.session.session.answer_stream.Goals as goal
 
 pub returns-in-Open-clause-answered : goal.returns-in-Open-clause-answered
 returns-in-Open-clause-answered c =
-    let is = fresh_of c.args.blocks c.args.inodes c.args.made c.args.pace _ _ c.in-Some.is
+    let is = fresh_of c.args.blocks c.args.inodes c.args.made c.args.fake_clock _ _ c.in-Some.is
     c.in_ok-session.ensures in
     let fed = c.in_ok-_progress.ensures.ok (fresh_is_open _ _ _ _ (session_of c.in-Some.session) is) in
     let ends = ends_open (session_of c.feed.new.self) c.in-Open.ensures in
@@ -12,7 +12,7 @@ returns-in-Open-clause-answered c =
 
 pub returns-clause-answered : goal.returns-clause-answered
 returns-clause-answered c =
-    let is = fresh_of c.args.blocks c.args.inodes c.args.made c.args.pace _ _ c.in-Some.is
+    let is = fresh_of c.args.blocks c.args.inodes c.args.made c.args.fake_clock _ _ c.in-Some.is
     c.in_ok-session.ensures in
     let fed = c.in_ok-_progress.ensures.ok (fresh_is_open _ _ _ _ (session_of c.in-Some.session) is) in
     let ends = ends_closed _ (session_of c.feed.new.self) _ _ _ _ fed c.in-Closed.ensures in

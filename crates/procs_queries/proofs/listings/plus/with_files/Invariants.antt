@@ -6,4 +6,4 @@ use Rattle.procs_queries.proofs.listings.plus.with_files.Given as goal
 abbrev pub invariant-entries : goal.invariant-entries
 invariant-entries g l =
     (world : g.F.Files.World) (tree : Tree) → g.F.Files.stands l.files world tree
-    → l.all.items ≡ map (plus tree) (take l.entry-index l.entries)
+    → l.all.items ≡ map (plus tree) (take l.listed_item-index l.entries)

@@ -15,21 +15,21 @@ returns-in-Err-clause-step g c = λ world tree stands good now fits.
     (make_directory tree c.args.ctx.now c.args.name.now.name c.args.wanted.now number.new)
     (g.F.Files.stands c.args.files.now world) c.refused.result.outcome c.refused.result.file c.in-Err.status
     ((rw c.in-Err.is at c.in_ok-status.ensures.ok) world tree stands) c.refused.ensures.outcome
-    c.refused.ensures.told stands in
+    c.refused.ensures.file_attributes stands in
     (number.new, number.is, left.0, left.1, left.2)
 
-pub returns-in_err-outcome-clause-pause : goal.returns-in_err-outcome-clause-pause
-returns-in_err-outcome-clause-pause g c =
+pub returns-in_err-outcome-clause-resumable : goal.returns-in_err-outcome-clause-resumable
+returns-in_err-outcome-clause-resumable g c =
     stopped_so c.from_residual-in_err-outcome.result c.in_err-outcome.field-0.0 _ (search rules)
     (λ world tree stands good now fits.
     let named = (rw c.in-Ok.is at c.in_ok-status.ensures.ok) world tree stands in
-    c.in_err-outcome.ensures.pause world tree named.0 stands named.2 good now
+    c.in_err-outcome.ensures.resumable world tree named.0 stands named.2 good now
     (subst AreBytes (sym c.as_slice.ensures) fits.0.name.each) fits.1)
 
-pub returns-clause-pause : goal.returns-clause-pause
-returns-clause-pause g c =
-    MatchResult-weaker c.changed_to.result c.changed_to.ensures.pause (λ x t. t)
-    (λ stop then world tree stands good now fits.
+pub returns-clause-resumable : goal.returns-clause-resumable
+returns-clause-resumable g c =
+    MatchResult-weaker c.changed_to.result c.changed_to.ensures.resumable (λ x t. t)
+    (λ suspend then world tree stands good now fits.
     let named = (rw c.in-Ok.is at c.in_ok-status.ensures.ok) world tree stands in
     let made = c.in_ok-outcome.ensures.ok world tree named.0 stands named.2 good now
     (subst AreBytes (sym c.as_slice.ensures) fits.0.name.each) fits.1 in
@@ -39,18 +39,18 @@ pub returns-clause-step : goal.returns-clause-step
 returns-clause-step g c =
     IfOk-weaker c.changed_to.result _ _ (λ r both world tree stands good now fits.
     let named = (rw c.in-Ok.is at c.in_ok-status.ensures.ok) world tree stands in
-    let head = c.in-Ok.directory in
+    let inode_attributes = c.in-Ok.directory in
     let new = g.F.Files.stands c.make_directory_in.new.files world in
     let made = c.in_ok-outcome.ensures.ok world tree named.0 stands named.2 good now
     (subst AreBytes (sym c.as_slice.ensures) fits.0.name.each) fits.1 in
     let done_so : IsDone new tree (make_directory tree c.args.ctx.now c.args.name.now.name c.args.wanted.now made.new
-    head.number (node_of head named.0)) r.outcome =
+    inode_attributes.number (node_of inode_attributes named.0)) r.outcome =
     subst (λ o. IsDone new tree (make_directory tree c.args.ctx.now c.args.name.now.name c.args.wanted.now made.new
-    head.number (node_of head named.0)) o) (sym both.0)
+    inode_attributes.number (node_of inode_attributes named.0)) o) (sym both.0)
     (subst (λ n. IsDone new tree (make_directory tree c.args.ctx.now n c.args.wanted.now made.new
-    head.number (node_of head named.0)) c.in_ok-outcome.outcome) c.as_slice.ensures made.done) in
-    let led = acted tree c.args.name.now.directory.bytes
+    inode_attributes.number (node_of inode_attributes named.0)) c.in_ok-outcome.outcome) c.as_slice.ensures made.done) in
+    let transition = acted tree c.args.name.now.directory.bytes
     (make_directory tree c.args.ctx.now c.args.name.now.name c.args.wanted.now made.new) new r.outcome r.file
-    head named done_so (λ next is. both.1 world next named.0 is named.2.fits) in
-    (made.new, made.is_new, led.0, led.1, led.2))
-    (both_ok c.changed_to.result _ _ c.changed_to.ensures.answer c.changed_to.ensures.told)
+    inode_attributes named done_so (λ next is. both.1 world next named.0 is named.2.fits) in
+    (made.new, made.is_new, transition.0, transition.1, transition.2))
+    (both_ok c.changed_to.result _ _ c.changed_to.ensures.answer c.changed_to.ensures.file_attributes)

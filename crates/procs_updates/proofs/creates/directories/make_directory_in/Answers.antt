@@ -3,7 +3,7 @@ use Rattle.std.proofs.lemmas.Result.{IfErr-weaker, IfOk-weaker}
 use Rattle.std.specs.FinMap as map
 use Rattle.base.specs.declared.TheConstants.{NEW_DIRECTORY_MODE}
 use Rattle.nfs_spec.specs.Model.Node.{Directory}
-use Rattle.nfs_spec.specs.Procedures.FirstTests.{may_change, place_tests}
+use Rattle.nfs_spec.specs.Procedures.FirstTests.{may_change, dentry_tests}
 use Rattle.nfs_spec.specs.Procedures.Fresh.{fresh, make, without_size}
 use Rattle.nfs_spec.specs.Procedures.Places.{named_file}
 use Rattle.procs_files.specs.Heads.{node_of}
@@ -18,7 +18,7 @@ returns-in-Err-clause-ok g c = λ world tree inside stands here good now bytes f
     let directory = node_of c.args.directory.now inside in
     let at = c.args.directory.now.number in
     refused_first (g.F.Files.stands c.args.files.now world) tree
-    (place_tests (may_change c.args.ctx.now.credential directory) directory c.args.name.now)
+    (dentry_tests (may_change c.args.ctx.now.credential directory) directory c.args.name.now)
     (mkdir_tests c.args.name.now directory (named_file tree directory c.args.name.now))
     (λ new. make tree c.args.ctx.now new at directory c.args.name.now (without_size c.args.wanted.now)
     (fresh c.args.ctx.now NEW_DIRECTORY_MODE None (Directory map.empty 0 at)))
@@ -30,15 +30,15 @@ returns-in-Some-clause-ok g c = λ world tree inside stands here good now bytes 
     let at = c.args.directory.now.number in
     let first = (rw c.in-Ok.is at c.in_ok-status.ensures.ok) world tree inside stands here in
     refused_then (g.F.Files.stands c.args.files.now world) tree
-    (place_tests (may_change c.args.ctx.now.credential directory) directory c.args.name.now)
+    (dentry_tests (may_change c.args.ctx.now.credential directory) directory c.args.name.now)
     (mkdir_tests c.args.name.now directory (named_file tree directory c.args.name.now))
     (λ new. make tree c.args.ctx.now new at directory c.args.name.now (without_size c.args.wanted.now)
     (fresh c.args.ctx.now NEW_DIRECTORY_MODE None (Directory map.empty 0 at)))
     c.in-Some.status first.0 (sym (c.directory_refusal.ensures tree _ inside first.1) ∙ c.in-Some.is) stands
 
-pub returns-clause-pause : goal.returns-clause-pause
-returns-clause-pause g c =
-    IfErr-weaker c.make.result _ _ (λ stop then world tree inside stands here good now bytes fits.
+pub returns-clause-resumable : goal.returns-clause-resumable
+returns-clause-resumable g c =
+    IfErr-weaker c.make.result _ _ (λ suspend then world tree inside stands here good now bytes fits.
     let directory = node_of c.args.directory.now inside in
     let at = c.args.directory.now.number in
     let first = (rw c.in-Ok.is at c.in_ok-status.ensures.ok) world tree inside stands here in
@@ -49,7 +49,7 @@ returns-clause-pause g c =
     (sym c.without_size-wanted.ensures)
     (can_make_directory tree at directory c.args.name.now c.args.wanted.now
     (may_change c.args.ctx.now.credential directory) first.0 second bytes fits)))
-    c.make.ensures.pause
+    c.make.ensures.resumable
 
 pub returns-clause-ok : goal.returns-clause-ok
 returns-clause-ok g c =
@@ -60,7 +60,7 @@ returns-clause-ok g c =
     let second = sym (c.directory_refusal.ensures tree _ inside first.1) ∙ c.in_default.is in
     let new = g.F.Files.stands c.make.new.files world in
     not_refused new tree
-    (place_tests (may_change c.args.ctx.now.credential directory) directory c.args.name.now)
+    (dentry_tests (may_change c.args.ctx.now.credential directory) directory c.args.name.now)
     (mkdir_tests c.args.name.now directory (named_file tree directory c.args.name.now))
     (λ new. make tree c.args.ctx.now new at directory c.args.name.now (without_size c.args.wanted.now)
     (fresh c.args.ctx.now NEW_DIRECTORY_MODE None (Directory map.empty 0 at)))

@@ -2,7 +2,7 @@ use Rattle.std.proofs.Common.{sym, subst, ◌∙◌, None}
 use Rattle.std.proofs.lemmas.Result.{IfErr-weaker, IfOk-weaker}
 use Rattle.base.specs.declared.TheConstants.{NEW_LINK_MODE}
 use Rattle.nfs_spec.specs.Model.Node.{Link}
-use Rattle.nfs_spec.specs.Procedures.FirstTests.{may_change, place_tests}
+use Rattle.nfs_spec.specs.Procedures.FirstTests.{may_change, dentry_tests}
 use Rattle.nfs_spec.specs.Procedures.Fresh.{fresh, make, without_size}
 use Rattle.nfs_spec.specs.Procedures.Places.{named_file}
 use Rattle.procs_files.specs.Heads.{node_of}
@@ -17,7 +17,7 @@ returns-in-Err-clause-ok g c = λ world tree inside stands here good now bytes f
     let directory = node_of c.args.directory.now inside in
     let at = c.args.directory.now.number in
     refused_first (g.F.Files.stands c.args.files.now world) tree
-    (place_tests (may_change c.args.ctx.now.credential directory) directory c.args.name.now)
+    (dentry_tests (may_change c.args.ctx.now.credential directory) directory c.args.name.now)
     (symlink_tests c.args.name.now c.args.target.now (named_file tree directory c.args.name.now))
     (λ new. make tree c.args.ctx.now new at directory c.args.name.now (without_size c.args.wanted.now)
     (fresh c.args.ctx.now NEW_LINK_MODE None (Link c.args.target.now)))
@@ -29,15 +29,15 @@ returns-in-Some-clause-ok g c = λ world tree inside stands here good now bytes 
     let at = c.args.directory.now.number in
     let first = (rw c.in-Ok.is at c.in_ok-status.ensures.ok) world tree inside stands here in
     refused_then (g.F.Files.stands c.args.files.now world) tree
-    (place_tests (may_change c.args.ctx.now.credential directory) directory c.args.name.now)
+    (dentry_tests (may_change c.args.ctx.now.credential directory) directory c.args.name.now)
     (symlink_tests c.args.name.now c.args.target.now (named_file tree directory c.args.name.now))
     (λ new. make tree c.args.ctx.now new at directory c.args.name.now (without_size c.args.wanted.now)
     (fresh c.args.ctx.now NEW_LINK_MODE None (Link c.args.target.now)))
     c.in-Some.status first.0 (sym (c.link_refusal.ensures tree _ first.1) ∙ c.in-Some.is) stands
 
-pub returns-clause-pause : goal.returns-clause-pause
-returns-clause-pause g c =
-    IfErr-weaker c.make.result _ _ (λ stop then world tree inside stands here good now bytes fits each.
+pub returns-clause-resumable : goal.returns-clause-resumable
+returns-clause-resumable g c =
+    IfErr-weaker c.make.result _ _ (λ suspend then world tree inside stands here good now bytes fits each.
     let directory = node_of c.args.directory.now inside in
     let at = c.args.directory.now.number in
     let first = (rw c.in-Ok.is at c.in_ok-status.ensures.ok) world tree inside stands here in
@@ -48,7 +48,7 @@ returns-clause-pause g c =
     (sym c.without_size-wanted.ensures)
     (can_make_link tree at directory c.args.name.now c.args.wanted.now c.args.target.now
     (may_change c.args.ctx.now.credential directory) first.0 second bytes fits each)))
-    c.make.ensures.pause
+    c.make.ensures.resumable
 
 pub returns-clause-ok : goal.returns-clause-ok
 returns-clause-ok g c =
@@ -59,7 +59,7 @@ returns-clause-ok g c =
     let second = sym (c.link_refusal.ensures tree _ first.1) ∙ c.in_default.is in
     let new = g.F.Files.stands c.make.new.files world in
     not_refused new tree
-    (place_tests (may_change c.args.ctx.now.credential directory) directory c.args.name.now)
+    (dentry_tests (may_change c.args.ctx.now.credential directory) directory c.args.name.now)
     (symlink_tests c.args.name.now c.args.target.now (named_file tree directory c.args.name.now))
     (λ new. make tree c.args.ctx.now new at directory c.args.name.now (without_size c.args.wanted.now)
     (fresh c.args.ctx.now NEW_LINK_MODE None (Link c.args.target.now)))

@@ -13,7 +13,7 @@ returns-then-pending-lt-MARK_BYTES c =
     record {
       cut = c.requires.cut;
       text = refl;
-      told = before_mark taken old.content.items old.pending.items at
+      tells_stage = before_mark taken old.content.items old.pending.items at
           (omega (arith, c.if-pending-lt-MARK_BYTES.true, ap length c.as_slice-pending.ensures));
     }
 
@@ -22,14 +22,14 @@ returns-then-length-len c =
     let old = c.args.self.now in
     let taken = taken_text old.taken.items in
     let at = outside old.stage taken old.content.items c.requires.outside c.requires.cut in
-    let front : take 4 old.pending.items ≡ mark c.announced-last.result.0 c.announced-last.result.1 =
+    let leading : take 4 old.pending.items ≡ mark c.announced-last.result.0 c.announced-last.result.1 =
     ap (take 4) (sym c.as_slice-pending.ensures) ∙ c.announced-last.ensures.mark in
     let text = ap (λ (t : List ℕ). taken ++ t) (take-append-drop 4 old.pending.items) in
     record {
       cut = c.requires.cut;
       text = refl;
-      told = subst IsTooLong text
+      tells_stage = subst IsTooLong text
           (too_long taken old.content.items (take 4 old.pending.items) (drop 4 old.pending.items)
-          c.announced-last.result.0 c.announced-last.result.1 at front c.announced-last.ensures.bound
+          c.announced-last.result.0 c.announced-last.result.1 at leading c.announced-last.ensures.bound
           (omega (arith, at.bounded, c.len.ensures.value, c.if-length-len.true)));
     }

@@ -22,7 +22,7 @@ returns-then-count-left c =
       cut = rw (done.taken, done.content)
           (fills last left n taken old.content.items old.pending.items at le (omega (arith, all)));
       text = rw (done.taken, done.pending) (same_text n taken old.pending.items);
-      told = rw (done.taken, done.pending, done.content)
+      tells_stage = rw (done.taken, done.pending, done.content)
           (fills_part last left n taken old.content.items old.pending.items at c.if-count-left.true all);
     }
 
@@ -45,7 +45,7 @@ returns c =
       cut = rw (done.taken, done.content) (between (taken ++ take n old.pending.items)
           (old.content.items ++ take n old.pending.items) at_false);
       text = rw (done.taken, done.pending) (same_text n taken old.pending.items);
-      told = omega (
+      tells_stage = omega (
         arith,
         ap length done.pending,
         length-drop n old.pending.items,

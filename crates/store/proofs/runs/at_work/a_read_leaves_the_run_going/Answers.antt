@@ -4,8 +4,8 @@ use Rattle.store.proofs.runs.at_work.a_read_leaves_the_run_going.Goals as goal
 pub returns-clause-core : goal.returns-clause-core
 returns-clause-core c = read_core
 
-pub returns-clause-told : goal.returns-clause-told
-returns-clause-told c = λ o told number store after block ok is. record { log = is.log; begun = is.begun }
+pub returns-clause-state_stays_so : goal.returns-clause-state_stays_so
+returns-clause-state_stays_so c = λ o run_state number store after block ok is. record { log = is.log; begun = is.begun }
 
 pub returns-clause-runs : goal.returns-clause-runs
 returns-clause-runs c = λ o base store after ok io content old boot first last entries read brings contents run.

@@ -1,22 +1,22 @@
 use Rattle.std.proofs.Common.{rules, ◌≡◌, ◌∙◌, ap, sym, subst, ◌<◌, ◌++◌, ◌∷◌, [], length, length-append, arith}
 use Rattle.std.proofs.lemmas.List.{append_assoc}
 use Rattle.std.specs.Vec.Iter.{into_iter_items}
-use Rattle.store_promise.specs.Headline.{KeepsPromise}
+use Rattle.store_promise.specs.Headline.{PreservesPromise}
 use Rattle.store_promise.specs.OpenSince.{file_blocks}
 use Rattle.store_promise.specs.Schedule.{Setting}
 use Rattle.store_promise.specs.Transcript.{refusals, transcript_of}
-use Rattle.store.specs.Runs.Going.{HasGone, begins, run_side}
+use Rattle.store.specs.Runs.Going.{HasGone, begins, store_and_workers}
 use Rattle.std.proofs.lemmas.List.{length-map}
 use Rattle.layout.specs.Geometry.{IsLawful}
 use Rattle.store.specs.Runs.Running.{states_of}
 use Rattle.store_workers.specs.declared.workers.Worker.{Worker}
-use Rattle.store.proofs.RunsLemmas.WholeRun.{all_at_rest, first_going, gone_on, promise_kept, refused_before}
+use Rattle.store.proofs.RunsLemmas.WholeRun.{all_at_rest, first_going, gone_on, promise_preserved, refused_before}
 use Rattle.store.proofs.runs.runs.run.Goals.{in-None, in-Some+then-not-take}
 use Rattle.store.proofs.runs.runs.run.Goals as goal
 
 pub returns-in-Err-clause-promised : goal.returns-in-Err-clause-promised
 returns-in-Err-clause-promised g c = λ tree first may.
-    c.in-Err.ensures.keeps tree first (record { rest = may.rest; good = may.good }) may.model
+    c.in-Err.ensures.preserves tree first (record { rest = may.rest; good = may.good }) may.model
 
 pub returns-in_default-clause-promised : goal.returns-in_default-clause-promised
 returns-in_default-clause-promised g c = λ tree first may.
@@ -31,12 +31,12 @@ events-init g c =
     let before = g.D.CrashDisk.device c.args.disk in
     let opened = g.D.CrashDisk.device store.disk in (
       c.new-running.ensures.well,
-      λ keeps. c.in-Ok-open.ensures.model (subst (λ s. g.D.CrashDisk.keeps_model s.disk) same keeps),
+      λ preserves. c.in-Ok-open.ensures.model (subst (λ s. g.D.CrashDisk.keeps_model s.disk) same preserves),
       search rules,
       ap (λ steps. length steps) c.new-run.ensures.empty.2,
       λ tree first may.
-          let keeps = subst (λ s. g.D.CrashDisk.keeps_model s.disk) same may.model in
-          let opens = c.in-Ok-open.ensures.keeps tree first (record { rest = may.rest; good = may.good }) keeps in
+          let preserves = subst (λ s. g.D.CrashDisk.keeps_model s.disk) same may.model in
+          let opens = c.in-Ok-open.ensures.preserves tree first (record { rest = may.rest; good = may.good }) preserves in
           let b = begins before opened tree first c.args.workers c.args.events.items in
           let begun = c.a_run_begins.ensures b opens.3 store.core opens.1 opens.2 opens.4 in
           let o : Setting = record {
@@ -54,7 +54,7 @@ events-init g c =
           (subst (λ s. IsLawful s.core.log.blocks s.core.inodes) same c.new-running.ensures.lawful) in
           let none = c.new-running.ensures.clock in
           subst (λ s. HasGone before tree first c.args.workers c.args.events.items
-          (run_side (g.D.CrashDisk.device s.disk) s.core made.calls made.workers.items made.clock)
+          (store_and_workers (g.D.CrashDisk.device s.disk) s.core made.calls made.workers.items made.clock)
           c.new-run.result) (sym same)
           (record { opened = opened; at = record { going = going; clock = omega (arith, none) } }),
     )
@@ -67,17 +67,17 @@ events-preserved g c =
     let new = c.take.new.self in
     let items = invariant.2 ∙ ap (λ rest. c.events.yielded ++ rest) c.in-Some.ensures.steps.0 in (
       c.take.ensures.well,
-      λ keeps. invariant.1 (c.take.ensures.model keeps),
+      λ preserves. invariant.1 (c.take.ensures.model preserves),
       items ∙ sym (append_assoc c.events.yielded (c.in-Some.event ∷ []) (into_iter_items c.next.new.self)),
-      (let told = c.take.ensures.told c.if-not-take.false in
+      (let steps_grow = c.take.ensures.steps_grow c.if-not-take.false in
           let so_far = invariant.3 in
           let long = length-append c.events.yielded (c.in-Some.event ∷ []) in
-          omega (arith, told, so_far, long)),
+          omega (arith, steps_grow, so_far, long)),
       λ tree first may.
           gone_on before tree first c.args.workers c.args.events.items (g.D.CrashDisk.keeps_model new.store.disk)
           c.in-Some.event
-          (run_side (g.D.CrashDisk.device old.store.disk) old.store.core old.calls old.workers.items old.clock)
-          (run_side (g.D.CrashDisk.device new.store.disk) new.store.core new.calls new.workers.items new.clock)
+          (store_and_workers (g.D.CrashDisk.device old.store.disk) old.store.core old.calls old.workers.items old.clock)
+          (store_and_workers (g.D.CrashDisk.device new.store.disk) new.store.core new.calls new.workers.items new.clock)
           c.events.run c.take.new.run c.events.yielded _ may.model may items invariant.3
           (invariant.4 tree first (record {
             model = c.take.ensures.model may.model;
@@ -93,45 +93,45 @@ returns-clause-promised g c = λ tree first may.
     let events = c.args.events.items in
     let invariant = c.events.invariant in
     let last = c.match-next.running in
-    let told = c.match-next.run in
+    let run_record = c.match-next.run in
     let disk_is = c.close.ensures ∙ c.end.ensures in
-    let keeps = subst g.D.CrashDisk.keeps_model disk_is may.model in
-    let side = run_side (g.D.CrashDisk.device last.store.disk) last.store.core last.calls
+    let preserves = subst g.D.CrashDisk.keeps_model disk_is may.model in
+    let side = store_and_workers (g.D.CrashDisk.device last.store.disk) last.store.core last.calls
     last.workers.items last.clock in
     let old = c.events.running in
     let so_far : g.D.CrashDisk.keeps_model old.store.disk → HasGone before tree first c.args.workers events
-    (run_side (g.D.CrashDisk.device old.store.disk) old.store.core old.calls old.workers.items old.clock)
+    (store_and_workers (g.D.CrashDisk.device old.store.disk) old.store.core old.calls old.workers.items old.clock)
     c.events.run =
-    λ kept. invariant.4 tree first
-    (record { model = kept; rest = may.rest; good = may.good; sound = may.sound }) in
-    let gone : HasGone before tree first c.args.workers events side told = elim c.match-next.branch [
+    λ is_preserved. invariant.4 tree first
+    (record { model = is_preserved; rest = may.rest; good = may.good; sound = may.sound }) in
+    let gone : HasGone before tree first c.args.workers events side run_record = elim c.match-next.branch [
       | in-None w ↦
           subst (λ r. HasGone before tree first c.args.workers events
-          (run_side (g.D.CrashDisk.device r.store.disk) r.store.core r.calls r.workers.items r.clock) told)
+          (store_and_workers (g.D.CrashDisk.device r.store.disk) r.store.core r.calls r.workers.items r.clock) run_record)
           (sym w.running-is)
           (subst (λ t. HasGone before tree first c.args.workers events
-          (run_side (g.D.CrashDisk.device old.store.disk) old.store.core old.calls
+          (store_and_workers (g.D.CrashDisk.device old.store.disk) old.store.core old.calls
           old.workers.items old.clock) t) (sym w.run-is)
-          (so_far (subst (λ r. g.D.CrashDisk.keeps_model r.store.disk) w.running-is keeps)))
+          (so_far (subst (λ r. g.D.CrashDisk.keeps_model r.store.disk) w.running-is preserves)))
       | in-Some+then-not-take w ↦
           let new = w.take.new.self in
-          let kept = subst (λ r. g.D.CrashDisk.keeps_model r.store.disk) w.running-is keeps in
+          let is_preserved = subst (λ r. g.D.CrashDisk.keeps_model r.store.disk) w.running-is preserves in
           let items = invariant.2 ∙ ap (λ rest. c.events.yielded ++ rest) w.in-Some.ensures.steps.0 in
           subst (λ r. HasGone before tree first c.args.workers events
-          (run_side (g.D.CrashDisk.device r.store.disk) r.store.core r.calls r.workers.items r.clock) told)
+          (store_and_workers (g.D.CrashDisk.device r.store.disk) r.store.core r.calls r.workers.items r.clock) run_record)
           (sym w.running-is)
           (subst (λ t. HasGone before tree first c.args.workers events
-          (run_side (g.D.CrashDisk.device new.store.disk) new.store.core new.calls
+          (store_and_workers (g.D.CrashDisk.device new.store.disk) new.store.core new.calls
           new.workers.items new.clock) t) (sym w.run-is)
           (gone_on before tree first c.args.workers events (g.D.CrashDisk.keeps_model new.store.disk) w.in-Some.event
-          (run_side (g.D.CrashDisk.device old.store.disk) old.store.core old.calls old.workers.items old.clock)
-          (run_side (g.D.CrashDisk.device new.store.disk) new.store.core new.calls new.workers.items new.clock)
-          c.events.run w.take.new.run c.events.yielded _ kept
-          (record { model = kept; rest = may.rest; good = may.good; sound = may.sound })
+          (store_and_workers (g.D.CrashDisk.device old.store.disk) old.store.core old.calls old.workers.items old.clock)
+          (store_and_workers (g.D.CrashDisk.device new.store.disk) new.store.core new.calls new.workers.items new.clock)
+          c.events.run w.take.new.run c.events.yielded _ is_preserved
+          (record { model = is_preserved; rest = may.rest; good = may.good; sound = may.sound })
           items invariant.3
-          (so_far (w.take.ensures.model kept)) w.take.ensures.goes))
+          (so_far (w.take.ensures.model is_preserved)) w.take.ensures.goes))
     ] in
-    let all : length told.steps.items < length events → 0 < refusals told = λ short. elim c.match-next.branch [
+    let all : length run_record.steps.items < length events → 0 < refusals run_record = λ short. elim c.match-next.branch [
       | in-None w ↦
           let it = c.events.event-iterator in
           let none = w.in-None.ensures.steps.0 in
@@ -145,9 +145,9 @@ returns-clause-promised g c = λ tree first may.
           subst (λ run. 0 < refusals run) (sym w.run-is) (w.take.ensures.refused w.if-not-take.true)
     ] in
     record {
-      keeps = subst (λ disk. KeepsPromise before (g.D.CrashDisk.device disk) tree first c.args.workers events
-          (transcript_of told)) (sym disk_is)
-          (promise_kept before tree first c.args.workers events side told
-          (g.met.D.CrashDisk.whole last.store.disk keeps) gone c.a_run_keeps_its_promise.ensures);
+      preserves = subst (λ disk. PreservesPromise before (g.D.CrashDisk.device disk) tree first c.args.workers events
+          (transcript_of run_record)) (sym disk_is)
+          (promise_preserved before tree first c.args.workers events side run_record
+          (g.met.D.CrashDisk.whole last.store.disk preserves) gone c.a_run_preserves_its_promise.ensures);
       all = all;
     }

@@ -27,20 +27,20 @@ module _ (b : Beginning) (position : ℕ) (opens : IsOpened b.before b.opened b.
     (blocks : ℕ → Image) where
   pub past : HasLeft b.before b.opened.size b.first b.tree b.events b.opened.clock (nothing b) blocks b.opened
   past clock image from early crash =
-      let found = opens.keeps clock image from (omega (arith, early)) crash in
+      let found = opens.preserves clock image from (omega (arith, early)) crash in
       record {
         prefix = record {
           boot = found.boot;
           boot_is = record {
             either = found.boot_is;
-            raised = λ reached. absurd (omega (arith, reached, early));
+            boot_incremented = λ reached. absurd (omega (arith, reached, early));
           };
           left = b.tree;
           good = found.good;
           count = 0;
           few = omega arith;
           prefix = refl;
-          lasts = λ place told. (let by = told.by in absurd (omega (arith, by, early)));
+          lasts = λ place settled_then. (let by = settled_then.by in absurd (omega (arith, by, early)));
         };
         homes = λ reached. absurd (omega (arith, reached, early));
       }
@@ -67,7 +67,7 @@ returns c = λ b base core position opens new.
         };
         running = c.an_opening_begins_a_run.ensures.runs b.before b.opened base core b.tree b.first o opens new
             has.newest (has.blocks ∙ sym size) has.inodes (λ place. refl);
-        told = c.an_opening_begins_a_run.ensures.told b.before b.opened base core b.tree b.first o opens new;
+        is_run_state = c.an_opening_begins_a_run.ensures.is_run_state b.before b.opened base core b.tree b.first o opens new;
         moved = c.a_device_counts_the_calls_of_its_steps.ensures.first b.opened;
         did = λ index made same. absurd (no_some made same);
         boot = refl;
@@ -95,13 +95,13 @@ returns c = λ b base core position opens new.
             places = refl;
             numbers = record {
               begun = λ worker number some. absurd (no_some number some);
-              alone = λ worker other number some _. absurd (no_some number some);
+              unique = λ worker other number some _. absurd (no_some number some);
               unused = λ worker number index entry some _ _. absurd (no_some number some);
               used = λ index entry same. absurd (no_some entry same);
             };
             waits = record {
               taken = λ worker place some. absurd (no_some place some);
-              alone = λ worker other place some _. absurd (no_some place some);
+              unique = λ worker other place some _. absurd (no_some place some);
               unanswered = λ worker place index a some _ _. absurd (no_some place some);
               answered = λ index place a same _. absurd (no_some a same);
             };

@@ -1,41 +1,71 @@
-use Rattle.std.proofs.Common.{sym, subst}
+use Rattle.std.proofs.Common.{◌≡◌, ◌∙◌, ap, length, sym, subst}
+use Rattle.objects.specs.Pins.{Residents}
 use Rattle.txn_law.specs.Core.{CoreState}
 use Rattle.txn_law.specs.CoreLaw.{IsLawfulCore}
-use Rattle.txn_law.specs.CoreWindow.{IsHomeOf, KeepsHome, KeepsReads}
+use Rattle.txn_law.specs.CoreWindow.{IsHomeOf, PreservesHome, PreservesReads}
+use Rattle.txn_law.specs.Fetch.{Fetch}
+use Rattle.txn_law.specs.Fetched.{fetch_failed}
+use Rattle.txn_law.specs.Leaves.{Leaves, taken_by, is_fetching, in_memory, without_fetch}
 use Rattle.txn_law.proofs.CoreLaws.{home_failed, lawful_failed}
 use Rattle.txn_law.proofs.HeldReads.{reads_failed}
-use Rattle.txn_law.specs.Leaves.{Leaves, taken_by, is_fetching, in_memory, without_fetch}
 use Rattle.txn_law.proofs.Leaves.{leaves_failed}
 use Rattle.txn.specs.Answering.{OfSome}
-use Rattle.txn.proofs.Answered.{log_counts}
-use Rattle.std.proofs.Common.{ap}
+use Rattle.txn.specs.Consistent.{IsConsistent, core_of}
+use Rattle.txn.proofs.Consistent.{consistent_failed}
 use Rattle.txn.proofs.transactions.Core.fetch_failed.Goals as goal
 
 pub invariant_of-self : goal.invariant_of-self
-invariant_of-self g c = (
-  subst (λ (core : CoreState). IsLawfulCore (OfSome g.C.Change.is_plan) core) (sym c.fetch_failed.ensures)
-      (lawful_failed (OfSome g.C.Change.is_plan) c.self.inside.state c.args.io.block c.self.invariant.0),
-  log_counts g.C.Change.are_counts c.self.inside.state c.fetch_failed.new.self
-      (ap (λ (core : CoreState). core.log.blocks) c.fetch_failed.ensures)
-      (ap (λ (core : CoreState). core.inodes) c.fetch_failed.ensures) c.self.invariant.1,
-)
+invariant_of-self g c =
+    let core = c.self.inside in
+    let old : CoreState = core_of core.log core.inodes core.begun core.out.items core.holds core.present.blocks
+    core.records.items core.boot (length core.log_calls.items) (length core.inst_calls.items) in
+    let new : CoreState = record old { present = c.fetch_failed.new.self.blocks } in
+    let is : new ≡ fetch_failed old c.args.io.block =
+    ap (λ (r : Residents). record old { present = r.blocks }) c.fetch_failed.ensures
+    ∙ ap (λ (io : Fetch). fetch_failed old io.block) c.io.view_is in (
+      subst (λ (resident : Residents). IsConsistent core.log core.holds core.records.items resident)
+          (sym c.fetch_failed.ensures)
+          (consistent_failed core.log core.holds core.records.items core.present c.io.inside.block
+          c.self.invariant.0),
+      subst (λ (now : CoreState). IsLawfulCore (OfSome g.C.Change.is_plan) now) (sym is)
+          (lawful_failed (OfSome g.C.Change.is_plan) old c.args.io.block c.self.invariant.1),
+      c.self.invariant.2,
+    )
 
-pub returns-clause-keeps : goal.returns-clause-keeps
-returns-clause-keeps g c =
-    subst (λ (old : CoreState). KeepsHome old c.fetch_failed.new.self) c.self.view_is
-    (λ base h. subst (λ (core : CoreState). IsHomeOf base core) (sym c.fetch_failed.ensures)
-    (home_failed c.self.inside.state c.args.io.block base h))
+pub returns-clause-preserves : goal.returns-clause-preserves
+returns-clause-preserves g c =
+    let core = c.self.inside in
+    let old : CoreState = core_of core.log core.inodes core.begun core.out.items core.holds core.present.blocks
+    core.records.items core.boot (length core.log_calls.items) (length core.inst_calls.items) in
+    let new : CoreState = record old { present = c.fetch_failed.new.self.blocks } in
+    let is : new ≡ fetch_failed old c.args.io.block =
+    ap (λ (r : Residents). record old { present = r.blocks }) c.fetch_failed.ensures
+    ∙ ap (λ (io : Fetch). fetch_failed old io.block) c.io.view_is in
+    subst (λ (before : CoreState). PreservesHome before new) c.self.view_is
+    (λ base h. subst (λ (now : CoreState). IsHomeOf base now) (sym is) (home_failed old c.args.io.block base h))
 
 pub returns-clause-stays : goal.returns-clause-stays
 returns-clause-stays g c = λ other.
-    subst (λ (old : CoreState). KeepsReads old c.fetch_failed.new.self other) c.self.view_is
-    (subst (λ (core : CoreState). KeepsReads c.self.inside.state core other) (sym c.fetch_failed.ensures)
-    (reads_failed c.self.inside.state c.args.io.block other))
+    let core = c.self.inside in
+    let old : CoreState = core_of core.log core.inodes core.begun core.out.items core.holds core.present.blocks
+    core.records.items core.boot (length core.log_calls.items) (length core.inst_calls.items) in
+    let new : CoreState = record old { present = c.fetch_failed.new.self.blocks } in
+    let is : new ≡ fetch_failed old c.args.io.block =
+    ap (λ (r : Residents). record old { present = r.blocks }) c.fetch_failed.ensures
+    ∙ ap (λ (io : Fetch). fetch_failed old io.block) c.io.view_is in
+    subst (λ (before : CoreState). PreservesReads before new other) c.self.view_is
+    (subst (λ (now : CoreState). PreservesReads old now other) (sym is) (reads_failed old c.args.io.block other))
 
 pub returns-clause-leaves : goal.returns-clause-leaves
 returns-clause-leaves g c =
-    subst (λ (old : CoreState). Leaves c.fetch_failed.new.self (taken_by old)
-    (without_fetch c.args.io.block (is_fetching old)) (in_memory old)) c.self.view_is
-    (subst (λ (core : CoreState). Leaves core (taken_by c.self.inside.state)
-    (without_fetch c.args.io.block (is_fetching c.self.inside.state)) (in_memory c.self.inside.state))
-    (sym c.fetch_failed.ensures) (leaves_failed c.self.inside.state c.args.io.block c.self.invariant.0.tidy))
+    let core = c.self.inside in
+    let old : CoreState = core_of core.log core.inodes core.begun core.out.items core.holds core.present.blocks
+    core.records.items core.boot (length core.log_calls.items) (length core.inst_calls.items) in
+    let new : CoreState = record old { present = c.fetch_failed.new.self.blocks } in
+    let is : new ≡ fetch_failed old c.args.io.block =
+    ap (λ (r : Residents). record old { present = r.blocks }) c.fetch_failed.ensures
+    ∙ ap (λ (io : Fetch). fetch_failed old io.block) c.io.view_is in
+    subst (λ (before : CoreState). Leaves new (taken_by before)
+    (without_fetch c.args.io.block (is_fetching before)) (in_memory before)) c.self.view_is
+    (subst (λ (now : CoreState). Leaves now (taken_by old) (without_fetch c.args.io.block (is_fetching old))
+    (in_memory old)) (sym is) (leaves_failed old c.args.io.block c.self.invariant.1.well_formed))

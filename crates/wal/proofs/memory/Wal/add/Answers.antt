@@ -15,7 +15,7 @@ invariant_of-self c =
     c.count_new-added.ensures
     ∙ ap (λ (g : List (BlockNo × Content)). added_blocks log (blocks_of g)) c.deref.ensures.value in
     let fits : tail_after log (blocks_of c.args.group.items) ≤ LOG_SLOTS =
-    omega (arith, added, c.if-len-ahead.false) in (
+    omega (arith, added, c.if-len-preceding.false) in (
       rw c.in-Ok.ensures.appended
           (lawful_with_group log c.args.group.items c.self.invariant.0
           (subst (λ (l : Log). HasPlaces l (blocks_of c.args.group.items)) (sym c.self.view_is) c.requires.places)

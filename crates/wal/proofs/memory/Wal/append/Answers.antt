@@ -4,7 +4,7 @@ use Rattle.circ.specs.Log.Effects.{HasAppended}
 use Rattle.circ.specs.Log.Grows.{GrowsBy, StandsStill}
 use Rattle.circ.proofs.LogLemmas.Effects.{seen_append}
 use Rattle.circ.proofs.LogLemmas.Absorption.{grows}
-use Rattle.circ.proofs.LogLemmas.Beside.{appended, still_with_group}
+use Rattle.circ.proofs.LogLemmas.Unaffected.{appended, still_with_group}
 use Rattle.wal.proofs.memory.Wal.append.Goals as goal
 
 pub returns-clause-seen : goal.returns-clause-seen

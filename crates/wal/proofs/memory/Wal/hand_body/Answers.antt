@@ -4,7 +4,7 @@ use Rattle.disk.specs.declared.block.Side.TheVariants.{Log as LogSide, Home}
 use Rattle.circ.specs.declared.log.change.LogChange.{LogChange}
 use Rattle.circ.specs.Log.Log.{Log, log_end}
 use Rattle.circ.specs.Log.Logger.{slot_block}
-use Rattle.wal.specs.BySide.{IsBody}
+use Rattle.wal.specs.ByRole.{IsBody}
 use Rattle.wal.specs.View.{log_of}
 use Rattle.wal.proofs.memory.Wal.hand_body.Goals as goal
 

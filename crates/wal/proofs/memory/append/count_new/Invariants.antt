@@ -6,6 +6,6 @@ use Rattle.wal.proofs.memory.append.count_new.Given as goal
 abbrev pub invariant-loop-change : goal.invariant-loop-change
 invariant-loop-change l =
     (l.count ≤ l.change-index)
-    × (l.count + length (new_blocks (changed_blocks (drop l.ahead l.changes.changes))
+    × (l.count + length (new_blocks (changed_blocks (drop l.preceding l.changes.changes))
     (blocks_of (drop l.change-index l.group)))
-    ≡ length (new_blocks (changed_blocks (drop l.ahead l.changes.changes)) (blocks_of l.group)))
+    ≡ length (new_blocks (changed_blocks (drop l.preceding l.changes.changes)) (blocks_of l.group)))

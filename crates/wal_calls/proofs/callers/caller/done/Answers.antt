@@ -4,7 +4,7 @@ use Rattle.wal_calls.proofs.callers.caller.done.Goals as goal
 pub returns-clause-back : goal.returns-clause-back
 returns-clause-back g c =
     comes_back_is c.args.side c.args.core.now c.done.new.self c.args.io c.args.ok c.done.ensures.log c.done.ensures.blocks
-    c.done.ensures.core c.done.ensures.leaves c.done.ensures.law c.done.ensures.stays c.done.ensures.keeps
+    c.done.ensures.core c.done.ensures.leaves c.done.ensures.law c.done.ensures.stays c.done.ensures.preserves
 
 pub returns-clause-inodes : goal.returns-clause-inodes
 returns-clause-inodes g c = (stays_back c.args.side c.args.core.now c.done.new.self c.done.ensures.core).inodes

@@ -5,7 +5,7 @@ pub returns-clause-next : goal.returns-clause-next
 returns-clause-next g c =
     next_is c.args.side c.next.result c.args.core.now c.next.new.self c.next.ensures.causes c.next.ensures.some
     c.next.ensures.none c.next.ensures.within c.next.ensures.call c.next.ensures.law c.next.ensures.stays
-    c.next.ensures.keeps
+    c.next.ensures.preserves
 
 pub returns-clause-blocks : goal.returns-clause-blocks
 returns-clause-blocks g c =

@@ -11,8 +11,8 @@ invariant_of-self c =
     let d : Distinct c.self.inside.indexes.items = record { count = c.self.invariant.0 } in
     let e : Distinct c.retain_below.new.indexes.items =
     subst Distinct (sym c.retain_below.ensures) (distinct-filter _ _ d) in
-    let kept = ap set.from_list c.retain_below.ensures ∙ sym (retain_listed _ _) in
-    (e.count, subst AreIndexes (sym kept) (fewer_indexes _ _ c.self.invariant.1))
+    let is_preserved = ap set.from_list c.retain_below.ensures ∙ sym (retain_listed _ _) in
+    (e.count, subst AreIndexes (sym is_preserved) (fewer_indexes _ _ c.self.invariant.1))
 
 pub returns : goal.returns
 returns c =

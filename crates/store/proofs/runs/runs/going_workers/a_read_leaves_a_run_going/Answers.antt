@@ -3,21 +3,21 @@ use Rattle.std.proofs.lemmas.List.Elements.{All-nil}
 use Rattle.store_promise.specs.declared.events.Event.TheVariants as event
 use Rattle.store_promise.specs.declared.events.Step.TheVariants as step
 use Rattle.store_promise.specs.Transcript.{entries_of, transcript_of}
-use Rattle.store_promise.specs.Running.{IsFetchOver, StoreSide}
-use Rattle.store_law.specs.Runs.Noting.{told_now}
+use Rattle.store_promise.specs.Running.{IsFetchOver, StoreState}
+use Rattle.store_law.specs.Runs.Tracing.{state_now}
 use Rattle.store.specs.Runs.AtWork.{fetches_of}
 use Rattle.store_workers.specs.Worker.{GoesWith}
 use Rattle.store_workers.specs.WorkerReads.{with_read}
 use Rattle.store_workers.specs.declared.workers.parts.State.{State}
-use Rattle.store.proofs.RunsLemmas.GoingBeside.{Leaves, goes, goes_on, left_alone}
+use Rattle.store.proofs.RunsLemmas.GoingUncommitted.{Leaves, goes, goes_on, left_going}
 use Rattle.store.proofs.RunsLemmas.GoingRead.{left_by, no_work, was_read}
-use Rattle.store.proofs.RunsLemmas.GoingOn.{step_alone, with_fetches}
+use Rattle.store.proofs.RunsLemmas.GoingOn.{only_step, with_fetches}
 use Rattle.store_images.proofs.LogSteps.{failed_is}
 use Rattle.store.proofs.runs.runs.going_workers.a_read_leaves_a_run_going.Goals as goal
 
 pub returns-clause-goes : goal.returns-clause-goes
 returns-clause-goes c =
-    λ b number store device workers later worker new made before after is_next list contents reads with notes going.
+    λ b number store device workers later worker new made before after is_next list contents reads with traces going.
     let t = transcript_of before in
     let o = going.setting in
     let boot = b.first + 1 in
@@ -25,7 +25,7 @@ returns-clause-goes c =
     let d = store.device in
     let moves = c.a_device_counts_the_calls_of_its_steps.ensures in
     let so = going.so_far.each number worker list.was in
-    let after_read : StoreSide = record store { device = device } in
+    let after_read : StoreState = record store { device = device } in
     let with_own = with_fetches o going.base store [] (fetches_of worker) boot b.tree going.last (entries_of t)
     going.run.running so.fetched in
     let left : Leaves b now o going.base going.last t store after_read made later =
@@ -45,28 +45,28 @@ returns-clause-goes c =
     brings
     (with_fetches o going.base after_read (fetches_of (with_read ok read.io read.content worker)) [] boot b.tree
     going.last (entries_of t) brings (All-nil (IsFetchOver going.base store.core)))
-    (c.a_read_leaves_the_run_going.ensures.told o (told_now b.events t) number store device read.io.block ok
-    going.run.told)
+    (c.a_read_leaves_the_run_going.ensures.state_stays_so o (state_now b.events t) number store device read.io.block ok
+    going.run.is_run_state)
     (λ went. subst (λ (s : State). GoesWith s store.core) read.worker (with went))) in
-    let moved = goes b now store after_read made workers later before after is_next notes going left
+    let moved = goes b now store after_read made workers later before after is_next traces going left
     (c.only_work_tells.ensures o b.workers b.events t now made (no_work number) left.taken) in
-    goes_on b now store after_read made workers later before after is_next notes going left
+    goes_on b now store after_read made workers later before after is_next traces going left
     (c.a_run_goes_on.ensures b o o t going.base going.base store after_read [] []
-    going.last going.last (step_alone made) going.run moved)
-    (c.what_is_told_grows.ensures.told b t now (step_alone made) is_next.next)
+    going.last going.last (only_step made) going.run moved)
+    (c.what_is_traced_grows.ensures.state_follows b t now (only_step made) is_next.next)
 
 pub returns-clause-absent : goal.returns-clause-absent
-returns-clause-absent c = λ b number store workers before after is_next other notes going.
+returns-clause-absent c = λ b number store workers before after is_next other traces going.
     let t = transcript_of before in
     let o = going.setting in
     let now = event.Read number in
     let left : Leaves b now o going.base going.last t store store None workers =
-    left_alone b now store workers before going
+    left_going b now store workers before going
     (λ there. other (let count = going.so_far.count in omega (arith, there, count)))
     (c.a_device_counts_the_calls_of_its_steps.ensures.none store.device None refl) in
-    let moved = goes b now store store None workers workers before after is_next notes going left
+    let moved = goes b now store store None workers workers before after is_next traces going left
     (c.only_work_tells.ensures o b.workers b.events t now None (no_work number) left.taken) in
-    goes_on b now store store None workers workers before after is_next notes going left
+    goes_on b now store store None workers workers before after is_next traces going left
     (c.a_run_goes_on.ensures b o o t going.base going.base store store [] [] going.last
-    going.last (step_alone None) going.run moved)
-    (c.what_is_told_grows.ensures.told b t now (step_alone None) is_next.next)
+    going.last (only_step None) going.run moved)
+    (c.what_is_traced_grows.ensures.state_follows b t now (only_step None) is_next.next)

@@ -1,7 +1,7 @@
 use Rattle.std.proofs.Common.{◌≡◌, ◌≤◌, ◌+◌, nat_lt, drop, length, subst, sym}
 use Rattle.circ.specs.Log.Log.{changed_blocks, is_among}
 use Rattle.wal.specs.Changes.Listed.{Listed}
-use Rattle.wal.proofs.ChangesLemmas.Laying.{has_is}
+use Rattle.wal.proofs.ChangesLemmas.AbsorbingChanges.{has_is}
 use Rattle.wal.proofs.changes.changes.Changes.has.Goals as goal
 
 pub returns : goal.returns

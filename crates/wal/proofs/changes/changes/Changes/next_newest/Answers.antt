@@ -5,7 +5,7 @@ use Rattle.circ.specs.Log.Installer.{passed_over}
 use Rattle.wal.specs.Changes.Listed.{Listed}
 use Rattle.wal.specs.Changes.Index.{IsNext, numbers}
 use Rattle.circ.proofs.LogLemmas.Newest.{passed_over-end}
-use Rattle.wal.proofs.ChangesLemmas.IndexLemmas.{pass_over, stop_at}
+use Rattle.wal.proofs.ChangesLemmas.IndexLemmas.{pass_over, newest_ends_at}
 use Rattle.wal.proofs.changes.changes.Changes.next_newest.Goals as goal
 
 pub loop-i-preserved : goal.loop-i-preserved
@@ -43,18 +43,18 @@ returns-then-name-eq0-clause-value c =
       | inl none ↦ absurd (omega (arith, none, p))
       | inr some ↦ some.1
     ] in
-    let stop =
-    stop_at c.self.inside.index.start c.self.inside.list.items c.args.end c.loop-i.i c.index-name.result.now fits
+    let newest_ends =
+    newest_ends_at c.self.inside.index.start c.self.inside.list.items c.args.end c.loop-i.i c.index-name.result.now fits
     c.loop-i-test.true next past in
     let before = c.loop-i.invariant in
     subst (λ (l : Listed). c.loop-i.i ≡ c.args.from + passed_over (drop c.args.from (take c.args.end l.changes)))
-    c.self.view_is (omega (arith, stop, before))
+    c.self.view_is (omega (arith, newest_ends, before))
 
 pub returns-clause-value : goal.returns-clause-value
 returns-clause-value c =
     let fits : c.args.end ≤ length c.self.inside.list.items =
     subst (λ (l : Listed). c.args.end ≤ length l.changes) (sym c.self.view_is) c.requires.end in
-    let stop = passed_over-end c.self.inside.list.items c.args.end c.loop-i.i fits c.loop-i-test.false in
+    let newest_ends = passed_over-end c.self.inside.list.items c.args.end c.loop-i.i fits c.loop-i-test.false in
     let before = c.loop-i.invariant in
     subst (λ (l : Listed). c.args.end ≡ c.args.from + passed_over (drop c.args.from (take c.args.end l.changes)))
-    c.self.view_is (omega (arith, stop, before))
+    c.self.view_is (omega (arith, newest_ends, before))

@@ -1,9 +1,0 @@
-use Rattle.dir.proofs.search.names.Names.clear_of.Goals as goal
-
-pub returns-then-first-second : goal.returns-then-first-second
-returns-then-first-second c = λ snap blocks inode index is saw at less.
-    c.clear_of-second.ensures snap blocks inode index is.second saw at less
-
-pub returns-else-first-second : goal.returns-else-first-second
-returns-else-first-second c = λ snap blocks inode index is saw at less.
-    c.clear_of-first.ensures snap blocks inode index is.first saw at less

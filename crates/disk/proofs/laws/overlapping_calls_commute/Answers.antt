@@ -1,5 +1,0 @@
-use Rattle.disk.proofs.OverlapLemmas.{commute}
-use Rattle.disk.proofs.laws.overlapping_calls_commute.Goals as goal
-
-pub returns : goal.returns
-returns c = commute

@@ -1,5 +1,0 @@
-use Rattle.image_read.proofs.LawsLemmas.NamedInImage.{names_in_image}
-use Rattle.image_read.proofs.laws.laws.names_are_those_of_slots.Goals as goal
-
-pub returns : goal.returns
-returns c = names_in_image

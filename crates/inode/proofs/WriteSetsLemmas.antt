@@ -1,0 +1,12 @@
+pub mod UpsertedObjects
+pub mod Written
+pub mod OneFile
+pub mod Attributes
+pub mod Marks
+pub mod OtherWrites
+pub mod Stops
+pub mod PutThere
+pub mod DirtyCounts
+pub mod FewBlocks
+pub mod Begun
+pub mod ArePreserved

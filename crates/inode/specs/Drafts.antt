@@ -1,3 +1,0 @@
-pub mod Drafted
-pub mod Laid
-pub mod Attributes

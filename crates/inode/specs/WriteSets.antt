@@ -1,0 +1,3 @@
+pub mod WriteSetContents
+pub mod Upserted
+pub mod Attributes

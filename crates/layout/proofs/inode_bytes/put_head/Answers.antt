@@ -1,8 +1,0 @@
-use Rattle.std.proofs.Common.{arith}
-use Rattle.std.proofs.lemmas.Grind.{common_steps}
-use Rattle.layout.specs.InodeForm.{head_bytes}
-use Rattle.layout.proofs.inode_bytes.put_head.Goals as goal
-
-pub returns-clause-bytes : goal.returns-clause-bytes
-unfolding head_bytes
-returns-clause-bytes c = grind (arith, common_steps)

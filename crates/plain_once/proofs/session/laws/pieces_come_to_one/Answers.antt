@@ -1,5 +1,0 @@
-use Rattle.plain_once.proofs.SessionLemmas.Pieces.{at_once}
-use Rattle.plain_once.proofs.session.laws.pieces_come_to_one.Goals as goal
-
-pub returns : goal.returns
-returns c = at_once

@@ -1,4 +1,0 @@
-use Rattle.procs.proofs.anew.plan.Goals as goal
-
-pub run-requires-clause-known : goal.run-requires-clause-known
-run-requires-clause-known c = c.go_on.ensures.known (c.in-Ok.ensures.known c.args.snap.now)

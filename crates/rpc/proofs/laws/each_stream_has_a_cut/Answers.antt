@@ -1,5 +1,0 @@
-use Rattle.rpc.proofs.EachCut.{each_cut}
-use Rattle.rpc.proofs.laws.each_stream_has_a_cut.Goals as goal
-
-pub returns : goal.returns
-returns c = each_cut

@@ -1,5 +1,0 @@
-use Rattle.rpc.proofs.RecordLaws.{rest_is_rest}
-use Rattle.rpc.proofs.laws.no_record_stands_there.Goals as goal
-
-pub returns : goal.returns
-returns c = rest_is_rest

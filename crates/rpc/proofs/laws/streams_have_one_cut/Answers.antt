@@ -1,5 +1,0 @@
-use Rattle.rpc.proofs.RecordLaws.{one_cut}
-use Rattle.rpc.proofs.laws.streams_have_one_cut.Goals as goal
-
-pub returns : goal.returns
-returns c = one_cut

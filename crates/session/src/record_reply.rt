@@ -1,0 +1,120 @@
+//! Answering one record.
+ghost use Rattle.std.specs.Prelude.{◌≡◌, ℕ, ◌<◌, get_or};
+ghost use Rattle.nfs_spec.specs.Model.Sound.{SoundTime};
+ghost use Rattle.store_images.specs.Opening.{store_of};
+ghost use Rattle.store_images.specs.Settling.{IsIdle};
+ghost use Rattle.session.specs.Serving.{reply_for};
+ghost use Rattle.session.specs.Replying.{IsCallAnswered, IsMountReply, TakesCall};
+ghost use Rattle.session.specs.Streaming.{Delivers, Serves};
+ghost use Rattle.session.specs.Writing.{output_state_of};
+ghost use Rattle.session_wire.specs.Replies.{body_of};
+
+use crate::output::Output;
+use crate::replies::put;
+use crate::stream::SessionFault;
+use bytes::Bytes;
+use disk::CrashDisk;
+use nfs_types::{Credential, Moment, MountCall, ProgramCall};
+use rpc::Refusal;
+use session_wire::{Judged, RpcReply, judge, mount_reply};
+use std::alloc::Global;
+use std::io::Write;
+use store::{Store, Verdict, procedure};
+
+/// Answers one record.
+pub fn serve_record<D: CrashDisk, W: Write>(
+    alloc: Global,
+    store: &mut Store<D>,
+    message: &Bytes,
+    writer: &mut Output<W>,
+    moment: Moment,
+) -> Result<(), SessionFault>
+    requires idle { IsIdle store.old.core }
+    requires timely { SoundTime moment }
+    ensures idle { IsIdle store.new.core }
+    ensures boot { store.new.boot ≡ store.old.boot }
+    ensures model { D.keeps_model store.new.disk → D.keeps_model store.old.disk }
+    ensures serves { Serves (D.keeps_model store.new.disk) moment
+        (store_of (D.device store.old.disk) store.old.core store.old.boot) (output_state_of W.contents writer.old)
+        message.now result
+        (store_of (D.device store.new.disk) store.new.core store.new.boot) (output_state_of W.contents writer.new) }
+{
+    are_bytes(message.as_slice());
+    match judge(alloc, message) {
+        Judged::Closed => Err(SessionFault::Record),
+        Judged::Refused { xid, refusal } => put(alloc, writer, xid, RpcReply::Refused(refusal)),
+        Judged::Call {
+            xid,
+            credential,
+            call,
+        } => serve_call(alloc, store, xid, credential, call, writer, moment),
+    }
+}
+
+// Each byte of a message is below 256.
+fn are_bytes(message: &[u8])
+    ensures { (index : ℕ) → get_or message.now index 0 < 256 }
+{}
+
+// Answers one call.
+fn serve_call<D: CrashDisk, W: Write>(
+    alloc: Global,
+    store: &mut Store<D>,
+    xid: u32,
+    credential: Credential,
+    call: ProgramCall,
+    writer: &mut Output<W>,
+    moment: Moment,
+) -> Result<(), SessionFault>
+    requires idle { IsIdle store.old.core }
+    requires timely { SoundTime moment }
+    requires fits { TakesCall credential call }
+    ensures idle { IsIdle store.new.core }
+    ensures boot { store.new.boot ≡ store.old.boot }
+    ensures model { D.keeps_model store.new.disk → D.keeps_model store.old.disk }
+    ensures serves { Delivers (λ reply. IsCallAnswered (D.keeps_model store.new.disk) moment
+        (store_of (D.device store.old.disk) store.old.core store.old.boot) xid credential call reply
+        (store_of (D.device store.new.disk) store.new.core store.new.boot))
+        (output_state_of W.contents writer.old) result (output_state_of W.contents writer.new) }
+{
+    match call {
+        ProgramCall::Nfs(call) => {
+            let verdict = procedure(alloc, store, credential, moment, call);
+            let answered = put(alloc, writer, xid, reply_to(&verdict));
+            drop(verdict);
+            answered
+        }
+        ProgramCall::Mount(call) => serve_mount(alloc, xid, &call, writer),
+    }
+}
+
+// Answers one call of MOUNT.
+fn serve_mount<W: Write>(
+    alloc: Global,
+    xid: u32,
+    call: &MountCall,
+    writer: &mut Output<W>,
+) -> Result<(), SessionFault>
+    ensures { Delivers (λ reply. IsMountReply xid call.now reply) (output_state_of W.contents writer.old) result
+        (output_state_of W.contents writer.new) }
+{
+    match mount_reply(alloc, call) {
+        Ok(reply) => {
+            let answered = put(alloc, writer, xid, RpcReply::Mount(&reply));
+            drop(reply);
+            answered
+        }
+        Err(_) => put(alloc, writer, xid, RpcReply::Refused(Refusal::SystemError)),
+    }
+}
+
+/// What a call is answered by what came of its procedure: its reply, or a system error where an allocation
+/// failed in the procedure.
+pub fn reply_to(verdict: &Verdict) -> RpcReply<'_>
+    ensures { body_of result ≡ reply_for verdict.now }
+{
+    match verdict {
+        Verdict::Reply(reply) => RpcReply::Nfs(reply),
+        Verdict::NoMemory => RpcReply::Refused(Refusal::SystemError),
+    }
+}

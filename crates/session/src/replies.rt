@@ -1,0 +1,70 @@
+//! Writing replies.
+ghost use Rattle.std.specs.Prelude.{◌≡◌, IfErr};
+ghost use Rattle.session.specs.Replying.{IsSpelled, IsSystemError};
+ghost use Rattle.session.specs.Streaming.{Delivers};
+ghost use Rattle.session.specs.Writing.{Writes, output_state_of};
+ghost use Rattle.session_wire.specs.Replies.{body_of};
+
+use crate::output::Output;
+use crate::stream::SessionFault;
+use rpc::Refusal;
+use session_wire::{RpcReply, reply_bytes};
+use std::alloc::Global;
+use std::io::{ErrorKind, Write};
+use xdr::XdrFault;
+
+/// Writes a reply, or a system error in place of one that is too long for a record.
+pub fn put<W: Write>(
+    alloc: Global,
+    writer: &mut Output<W>,
+    xid: u32,
+    reply: RpcReply<'_>,
+) -> Result<(), SessionFault>
+    ensures { Delivers (λ bytes. IsSpelled xid (body_of reply.entry) bytes) (output_state_of W.contents writer.old) result
+        (output_state_of W.contents writer.new) }
+{
+    match reply_bytes(alloc, xid, reply) {
+        Ok(bytes) => write_whole(writer, &bytes),
+        Err(XdrFault::Length) => put_system_error(alloc, writer, xid),
+        Err(_) => Err(SessionFault::NoMemory),
+    }
+}
+
+// Writes a system error.
+fn put_system_error<W: Write>(
+    alloc: Global,
+    writer: &mut Output<W>,
+    xid: u32,
+) -> Result<(), SessionFault>
+    ensures { Delivers (λ bytes. IsSystemError xid bytes) (output_state_of W.contents writer.old) result
+        (output_state_of W.contents writer.new) }
+{
+    match reply_bytes(alloc, xid, RpcReply::Refused(Refusal::SystemError)) {
+        Ok(bytes) => write_whole(writer, &bytes),
+        Err(_) => Err(SessionFault::NoMemory),
+    }
+}
+
+// Writes all the bytes and flushes. A write that is interrupted or short goes on. Where a write fails, a
+// beginning of the bytes is written.
+fn write_whole<W: Write>(writer: &mut Output<W>, bytes: &Vec<u8>) -> Result<(), SessionFault>
+    ensures written { Writes (output_state_of W.contents writer.old) bytes.now.items result (output_state_of W.contents writer.new) }
+    ensures fault { IfErr result (λ fault. fault ≡ SessionFault.Output) }
+{
+    let mut done = 0;
+    'writes: for _ in 0..u64::MAX {
+        if done == bytes.len() {
+            return match writer.flush() {
+                Ok(()) => Ok(()),
+                Err(_) => Err(SessionFault::Output),
+            };
+        }
+        match writer.write_from(bytes, done) {
+            Ok(0) => return Err(SessionFault::Output),
+            Ok(count) => done += count,
+            Err(error) if error.kind() == ErrorKind::Interrupted => {}
+            Err(_) => return Err(SessionFault::Output),
+        }
+    }
+    Err(SessionFault::Output)
+}

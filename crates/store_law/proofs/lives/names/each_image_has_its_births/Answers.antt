@@ -1,7 +1,0 @@
-use Rattle.store_law.proofs.LivesLemmas.Counted.{left_known}
-use Rattle.store_law.proofs.lives.names.each_image_has_its_births.Goals as goal
-
-pub returns : goal.returns
-returns c life at run image is there left =
-    left_known life at run image is there left
-    (λ place tree few led. c.each_tree_has_its_births.ensures life at place run tree is there few led)

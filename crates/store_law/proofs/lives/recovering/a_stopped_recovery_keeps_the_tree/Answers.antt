@@ -1,6 +1,0 @@
-use Rattle.store_law.proofs.LivesLemmas.Recovery.{stopped_again}
-use Rattle.store_law.proofs.lives.recovering.a_stopped_recovery_keeps_the_tree.Goals as goal
-
-pub returns : goal.returns
-returns c openings begun o at clock first tree image are there holds is from to left =
-    stopped_again openings begun o at clock first tree image are there holds is from to left

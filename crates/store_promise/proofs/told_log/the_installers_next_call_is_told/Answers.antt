@@ -1,9 +1,0 @@
-use Rattle.store_promise.proofs.ToldLog.{inst_call_is, may_install_is}
-use Rattle.store_promise.proofs.told_log.the_installers_next_call_is_told.Goals as goal
-
-pub returns-clause-may : goal.returns-clause-may
-returns-clause-may c = may_install_is
-
-pub returns-clause-call : goal.returns-clause-call
-returns-clause-call c = λ position log io logging lawful may next.
-    inst_call_is position log io logging lawful may next

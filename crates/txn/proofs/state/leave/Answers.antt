@@ -1,7 +1,0 @@
-use Rattle.std.proofs.Common.{rules, ℕ, not, nat_eq}
-use Rattle.std.proofs.lemmas.Fn.{filter_same}
-use Rattle.txn.proofs.state.leave.Goals as goal
-
-pub returns : goal.returns
-returns c = filter_same _ (λ (other : ℕ). not (nat_eq other c.args.transaction)) _
-    (λ x b f r. search rules) _ _ c.retain.ensures.filtered

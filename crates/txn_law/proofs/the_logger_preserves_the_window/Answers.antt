@@ -1,0 +1,8 @@
+use Rattle.txn_law.proofs.Moves.{window_log_out, window_log_back}
+use Rattle.txn_law.proofs.the_logger_preserves_the_window.Goals as goal
+
+pub returns-clause-goes_out : goal.returns-clause-goes_out
+returns-clause-goes_out c = window_log_out
+
+pub returns-clause-comes_back : goal.returns-clause-comes_back
+returns-clause-comes_back c = window_log_back
