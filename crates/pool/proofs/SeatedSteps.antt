@@ -147,7 +147,7 @@ module _ (sent : Sent) (before shown : Option (Given Outcome)) (old new : Worker
       by (want.Busy back) = stays tells _ none (deferred (is_barred (lock_request.Object addr mode) old.worker.known.taken) _ call)
       by (want.Loading back) = stays tells _ none (deferred (is_barred (lock_request.Object addr mode) old.worker.known.taken) _ call)
       by (want.Outside back) = stays tells _ none call
-      by (want.NoMemory back) = stays tells _ none call
+      by (want.NoMemory back error) = stays tells _ none call
 
   claims : (tx : ℕ) (block : BlockNo) (made : Step) (tells : Option Step) (has : HasClaimed tx block old made new)
       → HasCall old.worker sent → Leaves sent keeping new.core tells new.worker
@@ -162,7 +162,7 @@ module _ (sent : Sent) (before shown : Option (Given Outcome)) (old new : Worker
       by (claim.Busy back) = stays tells _ none (deferred (is_barred (lock_request.Claim block) old.worker.known.taken) _ call)
       by (claim.Loading back) = stays tells _ none (deferred (is_barred (lock_request.Claim block) old.worker.known.taken) _ call)
       by (claim.Outside back) = stays tells _ none call
-      by (claim.NoMemory back) = stays tells _ none call
+      by (claim.NoMemory back error) = stays tells _ none call
 
   module _ (mine : own.Job) (of : IsOf sent mine) (done : Outcome) (call : HasCall old.worker sent) where
     abbrev planned : State
@@ -230,7 +230,7 @@ module _ (sent : Sent) (before shown : Option (Given Outcome)) (old new : Worker
             record { stands = it.stands; gives = it.gives }
     commits_by blocks (commit.Full back same) worker witnesses_commit = stays _ _ none call
     commits_by blocks (commit.Foreign back same) worker witnesses_commit = stays _ _ none call
-    commits_by blocks (commit.NoMemory back same) worker witnesses_commit = stays _ _ none call
+    commits_by blocks (commit.NoMemory back same error) worker witnesses_commit = stays _ _ none call
     commits_by blocks (commit.Broken back same) worker witnesses_commit = stays _ _ none call
     commits_by blocks (commit.Spent back same) worker witnesses_commit = stays _ _ none call
 

@@ -284,6 +284,7 @@ module _ (before : Device) (tree : Tree) (first : ℕ) (holds : HoldsTree before
         boot = incremented.boot;
         log_calls = log_calls;
         inst_calls = inst_calls;
+        refused = 0;
       } → IsWellFormed core → IsFresh log → log.broken ≡ false → IsCertain now
           → (base : Image) × IsNewOver base later core
       is_new core log_calls inst_calls is well_formed fresh sound uncertain =
@@ -308,6 +309,7 @@ module _ (before : Device) (tree : Tree) (first : ℕ) (holds : HoldsTree before
               records = refl;
               present = refl;
               begun = refl;
+              refused = refl;
               places = fresh.places;
               sound = sound;
               newest = λ super is_super_of.

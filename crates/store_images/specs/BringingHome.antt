@@ -21,7 +21,7 @@ use Rattle.store_promise.specs.Openings.{AtEachStop, IsLater, IsOfAnother}
 
 -- the core, as one in which nothing was begun
 abbrev pub unused : CoreState → CoreState
-unused core = record core { begun = 0; out = []; holds = []; present = []; records = [] }
+unused core = record core { begun = 0; out = []; holds = []; present = []; records = []; refused = 0 }
 
 -- An image that can be opened, whose blocks, with its log laid over them, are those of a first image with the
 -- log of that laid over them, save for the super block, which is this.

@@ -261,7 +261,7 @@ module _ (t : Transcript) (a : Answer) (response : Reply) (is : a.verdict ≡ ve
       → now.log.broken ≡ true
   by_begun now true asked fault.Broken may so = may
   by_begun now true asked fault.Spent may so = absurd (not_refused status.ServerFault asked refl so)
-  by_begun now true asked fault.NoMemory may so = absurd (no_memory so)
+  by_begun now true asked (fault.NoMemory error) may so = absurd (no_memory so)
   by_begun now false asked why may so = cc
 
   by_refused : (job : Job) (begun : Begun) (why : Cause) → a.verdict ≡ refusal job.call why

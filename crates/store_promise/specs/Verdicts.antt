@@ -56,7 +56,7 @@ pub record IsCoveredWrite (t : Transcript) (answer : Answer) (place : ℕ) : Typ
 abbrev pub cause_of : BeginFault → Cause
 cause_of fault.Broken = cause.Io
 cause_of fault.Spent = cause.Spent
-cause_of fault.NoMemory = cause.NoMemory
+cause_of (fault.NoMemory error) = cause.NoMemory
 
 -- what a call is answered that is refused for a cause
 abbrev pub refusal : Call → Cause → Verdict

@@ -155,7 +155,7 @@ module _ (broken : Bool) (job : Job) (tx : ℕ) (seen : Seen) (asked : Asking) (
         ∙ off (lock_request.Object addr mode)
     wanted_progresses old new addr mode (want.Outside back) are is =
         back_is back is.0 (Refused cause.Io) (Some seen) asked knows
-    wanted_progresses old new addr mode (want.NoMemory back) are is =
+    wanted_progresses old new addr mode (want.NoMemory back error) are is =
         back_is back is.0 (Refused cause.NoMemory) (Some seen) asked knows
 
     pub claimed_progresses : (old new : CoreState) (block : BlockNo) (addr : Addr) (answer : Claim)
@@ -176,7 +176,7 @@ module _ (broken : Bool) (job : Job) (tx : ℕ) (seen : Seen) (asked : Asking) (
         ∙ off (lock_request.Claim block)
     claimed_progresses old new block addr (claim.Outside back) is =
         back_is back is.0 (Refused cause.Io) (Some seen) asked knows
-    claimed_progresses old new block addr (claim.NoMemory back) is =
+    claimed_progresses old new block addr (claim.NoMemory back error) is =
         back_is back is.0 (Refused cause.NoMemory) (Some seen) asked knows
 
     with_it : (base : State) (phase : Phase) (back : ℕ) (then' : Knowing) → base.work.job ≡ Some job
@@ -208,7 +208,7 @@ module _ (broken : Bool) (job : Job) (tx : ℕ) (seen : Seen) (asked : Asking) (
     commit_progresses old new done added planned (commit.Foreign back same) base job_is seen_is asked_is known_is is =
         with_it base Again back (without_off base.known) job_is seen_is asked_is is.0.transaction
         ∙ ap (λ k. progress_as Again (Some job) (Some tx) (Some seen) asked (without_off k)) known_is
-    commit_progresses old new done added planned (commit.NoMemory back same) base job_is seen_is asked_is known_is is =
+    commit_progresses old new done added planned (commit.NoMemory back same error) base job_is seen_is asked_is known_is is =
         with_it base (Refused cause.NoMemory) back base.known job_is seen_is asked_is is.0.transaction
         ∙ ap (λ k. progress_as (Refused cause.NoMemory) (Some job) (Some tx) (Some seen) asked k) known_is
     commit_progresses old new done added planned (commit.Broken back same) base job_is seen_is asked_is known_is is =

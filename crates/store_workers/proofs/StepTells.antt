@@ -306,7 +306,7 @@ module _ (boot number : ℕ) (entries : List Entry) (old new : WorkerAndCore) (a
       by (want.Loading back) is = left (want.Loading back) (off_job (lock_request.Object addr mode))
           (off_stands (lock_request.Object addr mode) (once_wanted addr mode (want.Loading back)) (runs tx back tx_is is.0 stands))
       by (want.Outside back) is = left (want.Outside back) refl (runs tx back tx_is is.0 stands)
-      by (want.NoMemory back) is = left (want.NoMemory back) refl (runs tx back tx_is is.0 stands)
+      by (want.NoMemory back error) is = left (want.NoMemory back error) refl (runs tx back tx_is is.0 stands)
 
   claims : (tx : ℕ) (block : BlockNo) (made : Step) → old.worker.begun.tx ≡ Some tx
       → IsRequested old.worker (lock_request.Claim block) (plan.Claim block) → (has : HasClaimed tx block old made new)
@@ -329,7 +329,7 @@ module _ (boot number : ℕ) (entries : List Entry) (old new : WorkerAndCore) (a
       by (claim.Loading back) is = left (claim.Loading back) (off_job (lock_request.Claim block))
           (off_stands (lock_request.Claim block) (once_claimed block (claim.Loading back)) (runs tx back tx_is is.0 stands))
       by (claim.Outside back) is = left (claim.Outside back) refl (runs tx back tx_is is.0 stands)
-      by (claim.NoMemory back) is = left (claim.NoMemory back) refl (runs tx back tx_is is.0 stands)
+      by (claim.NoMemory back error) is = left (claim.NoMemory back error) refl (runs tx back tx_is is.0 stands)
 
   lacks : (tx : ℕ) (made : Step) → HasLacked tx old made new
       → LeavesIt Planning (Some (step.Ended ending.NoMemory))
@@ -437,7 +437,7 @@ module _ (boot number : ℕ) (entries : List Entry) (old new : WorkerAndCore) (a
         goes_on Planning (step.Commit added committing.Foreign)
         (record (with_tx back Again planned) { known = without_off planned.known }) job job_is refl
         at.answer at.entry (runs tx back tx_is is.0.transaction stands)
-    commits_by (commit.NoMemory back same) is =
+    commits_by (commit.NoMemory back same error) is =
         back_in back (step.Commit added committing.NoMemory) (Refused cause.NoMemory)
         is.0.transaction refl at.entry
         (λ r. r)

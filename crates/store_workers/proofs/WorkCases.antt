@@ -30,7 +30,8 @@ use Rattle.store_workers.specs.WorkerAnswers.{claim_answer, committing_of, want_
 use Rattle.store_workers.specs.WorkerSteps.{BeginsBy, EndsBy, GoesByLockRequest, GoesByNext, GoesOn, HasBegun, HasClaimed}
 use Rattle.store_workers.specs.WorkerSteps.{HasCommitted, HasGivenBack, HasLacked, HasLeft}
 use Rattle.store_workers.specs.WorkerSteps.{HasRefused, HasWanted}
-use Rattle.store_workers.specs.WorkerSteps.{IsNext, IsNoBeginning, WorkerAndCore, Waits, given_step}
+use Rattle.store_workers.specs.WorkerSteps.{IsNext, WorkerAndCore, Waits, given_step}
+use Rattle.txn.specs.Outcomes.{IsNoBeginning, unbegun}
 use Rattle.store_workers.specs.declared.workers.parts.Job.{Job}
 use Rattle.store_workers.specs.declared.workers.parts.State.{State}
 use Rattle.store_workers.specs.declared.workers.parts.Phase.{Phase}
@@ -55,7 +56,7 @@ pub record Cases (old new : WorkerAndCore) (P : Phase → Option Step → Type 0
       → HasBegun job old number new → P Called (Some (step.Begun (Ok number)))
   pub not_begun : (job : Job) (why : BeginFault) → old.worker.work.job ≡ Some job
       → begins_transaction job.call ≡ true
-      → IsNoBeginning why old.core → new.core ≡ old.core
+      → IsNoBeginning why old.core → new.core ≡ unbegun why old.core
       → new.worker ≡ with_answer (refusal job.call (cause_of why)) None old.worker
       → P Called (Some (step.Begun (Err why)))
   pub replied : (job : Job) → old.worker.work.job ≡ Some job → begins_transaction job.call ≡ false
@@ -167,7 +168,7 @@ module _ (old new : WorkerAndCore) (P : Phase → Option Step → Type 0) (cases
     goes (plan.Claim block) made is has = so Planning made _ has.made_is
         (cases.claimed tx block made tx_is (by_plan (lock_request.Claim block) (plan.Claim block) is) has)
     goes (plan.Done done) made is has = ends done is made has
-    goes plan.NoMemory made is has = lacks made has
+    goes (plan.NoMemory error) made is has = lacks made has
 
   -- what is taken again, with a call and what was read for it
   module _ (tx : ℕ) (tx_is : old.worker.begun.tx ≡ Some tx) (planned : is_planned old.worker.work ≡ true)

@@ -49,6 +49,6 @@ abbrev pub PreservesWitness : {C : Type 0} → Commit C → Option (Given C) →
 PreservesWitness (commit.Committed receipt) before after = after ≡ Some receipt
 PreservesWitness (commit.Full back change) before after = after ≡ before
 PreservesWitness (commit.Foreign back change) before after = after ≡ before
-PreservesWitness (commit.NoMemory back change) before after = after ≡ before
+PreservesWitness (commit.NoMemory back change error) before after = after ≡ before
 PreservesWitness (commit.Broken back change) before after = after ≡ before
 PreservesWitness (commit.Spent back change) before after = after ≡ before

@@ -28,8 +28,8 @@ pub record IsConsistent (log : Log) (holds : List Hold) (records : List Footprin
   pub kept : All (IsToInstall log) records
 
 -- the core that has these parts
-abbrev pub core_of : Log → ℕ → ℕ → List ℕ → List Hold → List Present → List Footprint → ℕ → ℕ → ℕ → CoreState
-core_of log inodes begun out holds present records boot log_calls inst_calls = record {
+abbrev pub core_of : Log → ℕ → ℕ → List ℕ → List Hold → List Present → List Footprint → ℕ → ℕ → ℕ → ℕ → CoreState
+core_of log inodes begun out holds present records boot log_calls inst_calls refused = record {
   log = log;
   inodes = inodes;
   begun = begun;
@@ -40,4 +40,5 @@ core_of log inodes begun out holds present records boot log_calls inst_calls = r
   boot = boot;
   log_calls = log_calls;
   inst_calls = inst_calls;
+  refused = refused;
 }

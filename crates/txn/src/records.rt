@@ -1,6 +1,6 @@
 //! The commits that aren't installed, and the pins of what they read and of what transactions hold; how a transaction ends.
 ghost use Rattle.std.specs.Prelude.{◌≡◌, ◌<◌, ◌↔◌, ◌++◌, ◌∷◌, [], if◌then◌else◌, nat_eq, nat_lt, not};
-ghost use Rattle.std.specs.Prelude.{All, IfOk, IsTrue};
+ghost use Rattle.std.specs.Prelude.{All, IfOk, IsTrue, OnOk};
 ghost use Rattle.std.specs.List.{filter};
 ghost use Rattle.std.specs.VecDeque.{deque_len, deque_capacity};
 ghost use Rattle.objects.specs.Pins.{Pins, Unpins, once_at, pins_of};
@@ -80,8 +80,18 @@ pub(crate) fn block_of_each(alloc: Global, objects: &[Object]) -> Result<Vec<Blo
         .collect(alloc)
 }
 
-/// Whether each of the blocks can be pinned once more for each of them.
-pub(crate) fn can_pin_each(present: &Residency, blocks: &[BlockNo]) -> bool
+/// Each of the blocks can be pinned once more for each of them, or there is no room to count its pins.
+pub(crate) fn can_pin_each(present: &Residency, blocks: &[BlockNo]) -> Result<(), AllocError>
+    ensures { OnOk result (AreCountable present.now blocks.now) }
+{
+    if are_countable(present, blocks) {
+        return Ok(());
+    }
+    Err(AllocError)
+}
+
+// Whether each of the blocks can be pinned once more for each of them.
+fn are_countable(present: &Residency, blocks: &[BlockNo]) -> bool
     ensures { IsTrue result ↔ AreCountable present.now blocks.now }
 {
     let more = blocks.len();

@@ -7,6 +7,7 @@ ghost use Rattle.disk.specs.declared.block.BlockNo.{BlockNo as BlockNumber};
 ghost use Rattle.objects.specs.Pins.{Pins, PinsStay, once_at, pins_of};
 ghost use Rattle.objects.specs.Present.{bytes_in, content_in, present_of};
 ghost use Rattle.objects.specs.declared.addr.Addr.{Addr};
+ghost use Rattle.objects.specs.declared.mode.Mode.TheVariants as modes;
 ghost use Rattle.circ.specs.Log.Calls.{AgreesWithPending, Pending};
 ghost use Rattle.circ.specs.Log.Log.{newest};
 ghost use Rattle.txn_law.specs.CoreLaw.{IsLawfulCore};
@@ -14,7 +15,7 @@ ghost use Rattle.txn_law.specs.CoreWindow.{IsHomeOf, PreservesHome, PreservesRea
 ghost use Rattle.txn_law.specs.Holds.{IsFree, with_hold};
 ghost use Rattle.txn_law.specs.HomeRead.{IsReadable, HasContents};
 ghost use Rattle.txn_law.specs.Leaves.{Leaves, HasFetched, taken_by, is_fetching, in_memory, without_fetch};
-ghost use Rattle.txn_law.specs.Lists.{taken};
+ghost use Rattle.txn_law.specs.Lists.{claimed, taken};
 ghost use Rattle.txn_law.specs.LockAnswers.{IsOpen, IsWhole};
 ghost use Rattle.txn.specs.Answering.{OfSome};
 ghost use Rattle.txn.specs.Exactly.{IsWantedExactly, IsClaimedExactly};
@@ -41,7 +42,7 @@ impl<C: Change> Core<C> {
     /// another transaction has taken a byte of it, and it or this one takes that alone; or this one has taken a byte
     /// of it by another address. Loading: a fetch of the block is pending, and nothing is taken. They are tested in
     /// this order. Fetch: the block has to be read from home; the object is taken, and the same want after `fetched`
-    /// answers Held or NoMemory. NoMemory: nothing has changed. An object that this transaction shares is raised by a
+    /// answers Held or NoMemory. NoMemory: nothing has changed, but that the refusal is counted. An object that this transaction shares is raised by a
     /// want of it alone, where no other transaction shares it.
     pub fn want(&mut self, alloc: Global, tx: Tx, addr: Addr, mode: Mode) -> Want
         ensures answer { IsWanted self.old tx addr mode result self.new }
@@ -69,7 +70,10 @@ impl<C: Change> Core<C> {
         match self.take_for_reading(alloc, tx.number, addr, mode) {
             Ok(Source::Bytes(bytes)) => Want::Held(tx, bytes),
             Ok(Source::Fetch(io)) => Want::Fetch(tx, io),
-            Err(_) => Want::NoMemory(tx),
+            Err(error) => {
+                self.refuse(error);
+                Want::NoMemory(tx, error)
+            }
         }
     }
 
@@ -96,15 +100,28 @@ impl<C: Change> Core<C> {
         if self.present.is_pending(addr.block) {
             return Claim::Loading(tx);
         }
+        match self.take_for_writing(tx.number, addr) {
+            Ok(()) => Claim::Held(tx),
+            Err(error) => {
+                self.refuse(error);
+                Claim::NoMemory(tx, error)
+            }
+        }
+    }
+
+    // Takes a block by the address of all of it, which is free. Where there is no room nothing changes.
+    fn take_for_writing(&mut self, transaction: u64, addr: Addr) -> Result<(), AllocError>
+        requires whole { IsWhole addr.block addr }
+        requires free { IsOpen self.old transaction addr modes.Exclusive }
+        ensures taken { OnOk result (self.new ≡ claimed self.old transaction addr) }
+        ensures refused { OnErr result (self.new ≡ self.old) }
+    {
         self.holds.lawful();
-        match take(
+        take(
             &mut self.holds,
             &mut self.present,
-            for_writing(tx.number, addr),
-        ) {
-            Ok(()) => Claim::Held(tx),
-            Err(_) => Claim::NoMemory(tx),
-        }
+            for_writing(transaction, addr),
+        )
     }
 
     // Takes the object, which is free, and its block's place in memory where it has none. Where there is no room

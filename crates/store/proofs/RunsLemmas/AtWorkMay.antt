@@ -84,7 +84,8 @@ use Rattle.store_workers.specs.Stages.{at_stage, begun_of}
 use Rattle.store_workers.specs.Stages.{progress_in, progress_of}
 use Rattle.store_workers.specs.WorkerAnswers.{claim_answer, committing_of, want_answer}
 use Rattle.store_workers.specs.WorkerSteps.{GoesOn, HasClaimed, HasCommitted, HasLacked, HasWanted, IsNext}
-use Rattle.store_workers.specs.WorkerSteps.{IsNoBeginning, WorkerAndCore}
+use Rattle.store_workers.specs.WorkerSteps.{WorkerAndCore}
+use Rattle.txn.specs.Outcomes.{IsNoBeginning}
 use Rattle.store_workers.specs.WorkerSteps.{given_step, planned_of, worker_and_core}
 use Rattle.store_workers.specs.declared.workers.parts.Job.{Job}
 use Rattle.store_workers.specs.declared.workers.parts.Phase.{Phase}
@@ -123,7 +124,7 @@ module _ (run_state : RunState) (worker : ℕ) (core : CoreState) (tx : ℕ) (kn
       → IsCaused run_state worker (Some (step.Wanted addr mode (want_answer answer)))
       → IsLockAnswer run_state worker (begun_of found seen knowing) (schedule.range_request_at addr mode) (want_answer answer)
   want_may addr mode home found seen new (want.Held back bytes) is caused = caused
-  want_may addr mode home found seen new (want.NoMemory back) is caused = caused
+  want_may addr mode home found seen new (want.NoMemory back error) is caused = caused
   want_may addr mode home found seen new (want.Busy back) is caused = caused
   want_may addr mode home found seen new (want.Loading back) is caused = caused
   want_may addr mode home found seen new (want.Outside back) is caused =
@@ -136,7 +137,7 @@ module _ (run_state : RunState) (worker : ℕ) (core : CoreState) (tx : ℕ) (kn
       → IsCaused run_state worker (Some (step.Claimed block (claim_answer answer)))
       → IsClaimAnswer run_state worker begun block (claim_answer answer)
   claim_may block addr home begun new (claim.Held back) is caused = caused
-  claim_may block addr home begun new (claim.NoMemory back) is caused = caused
+  claim_may block addr home begun new (claim.NoMemory back error) is caused = caused
   claim_may block addr home begun new (claim.Busy back) is caused = caused
   claim_may block addr home begun new (claim.Loading back) is caused = caused
   claim_may block addr home begun new (claim.Outside back) is caused =
@@ -226,7 +227,7 @@ module _ (o : Setting) (base : Image) (store : StoreState) (fetches : List Fetch
   by_answer run_state worker change (commit.Full back same) new is caused =
       (is.1.sound, numbers.1 is.1.log_space.0, let fits = is.1.log_space.1 in omega (arith, held, fits))
   by_answer run_state worker change (commit.Foreign back same) new is caused = absurd caused
-  by_answer run_state worker change (commit.NoMemory back same) new is caused =
+  by_answer run_state worker change (commit.NoMemory back same error) new is caused =
       (is.1.sound, numbers.1 is.1.log_space.0, let fits = is.1.log_space.1 in omega (arith, held, fits))
   by_answer run_state worker change (commit.Broken back same) new is caused = is.1
   by_answer run_state worker change (commit.Spent back same) new is caused = (is.1.sound, λ has. is.1.log_space (numbers.0 has))
@@ -317,7 +318,7 @@ module _ (o : Setting) (run_state : RunState) (number : ℕ) (base : Image) (sto
     broken_is ∙ none.0,
     subst (λ (n : ℕ). 2 ^ 64 ≤ n + 1) (sym state_agrees.begun) (let spent = none.1 in omega (arith, spent)),
   )
-  not_begun_may fault.NoMemory none = (
+  not_begun_may (fault.NoMemory error) none = (
     broken_is ∙ none.0,
     subst (λ (n : ℕ). n + 1 < 2 ^ 64) (sym state_agrees.begun) none.1,
   )

@@ -356,6 +356,7 @@ module _ (b : Beginning) (number clock : ℕ) (store : StoreState) (workers all_
             ∙ ap (λ (s : Setting). log_state_of s.position core.log store.logging store.installing)
             (sym left.setting);
         begun = state_agrees_then.begun;
+        refused = state_agrees_then.refused;
       };
       leads = subst (λ (es : List Entry). leads_to b.tree es left.next) (sym entries_are) left.leads;
       files = λ place. subst (λ (es : List Entry). StandsAfter left.later.geometry b.tree (take place es)

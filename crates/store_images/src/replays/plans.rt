@@ -61,7 +61,7 @@ pub(crate) fn plan_over<D: CrashDisk>(
             Plan::Need(addr, mode) => read_object(alloc, disk, block, &mut snap, addr, mode)?,
             Plan::Claim(number) => snap.claimed(number),
             Plan::Done(done) => return Ok(done),
-            Plan::NoMemory => return Err(OpenFault::NoMemory),
+            Plan::NoMemory(_) => return Err(OpenFault::NoMemory),
         }
     }
 }

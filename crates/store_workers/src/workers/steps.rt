@@ -280,6 +280,6 @@ fn cause_of(fault: BeginFault) -> Cause
     match fault {
         BeginFault::Broken => Cause::Io,
         BeginFault::Spent => Cause::Spent,
-        BeginFault::NoMemory => Cause::NoMemory,
+        BeginFault::NoMemory(_) => Cause::NoMemory,
     }
 }

@@ -51,6 +51,7 @@ keep-requires-clause-pinned g c =
       boot = core.boot;
       log_calls = length core.log_calls.items;
       inst_calls = length core.inst_calls.items;
+      refused = length core.refused.items;
     } in
     let own : IsOwn seen c.args.tx plan =
     subst (λ (old : CoreState). IsOwn old c.args.tx plan) (sym c.self.view_is) c.requires.own in
@@ -73,7 +74,7 @@ keep-requires-clause-countable g c =
     (subst (λ (r : Residents). AreCountable r (block_of_each plan.read)) (sym c.refresh.ensures)
     (subst (λ (blocks : List BlockNo). AreCountable core.present blocks)
     (c.as_slice.ensures.value ∙ c.in-Ok.ensures ∙ ap block_of_each c.read.ensures)
-    (c.can_pin_each.ensures.0 c.if-not-can_pin_each.false)))
+    c.in_default-can_pin_each.ensures))
 
 -- the records with that of a change that was committed
 with_preserved : (log : Log) (plan : Planned) (installed place : ℕ) (before after : List Footprint) (kept : Footprint)
@@ -104,7 +105,8 @@ invariant_of-self-in-Appended g c =
     let there : Residents = c.keep.new.present in
     let left : Residents = c.end.new.present in
     let seen : CoreState = core_of core.log core.inodes core.begun core.out.items core.holds old.blocks before
-    core.boot (length core.log_calls.items) (length core.inst_calls.items) in
+    core.boot (length core.log_calls.items) (length core.inst_calls.items)
+    (length core.refused.items) in
     let own : IsOwn seen c.args.tx plan =
     subst (λ (old : CoreState). IsOwn old c.args.tx plan) (sym c.self.view_is) c.requires.own in
     let is : there.blocks ≡ refreshed log old.blocks =
@@ -161,8 +163,8 @@ invariant_of-self-in-Appended g c =
       log_counts g.C.Change.are_counts seen new still.blocks refl c.self.invariant.2,
     )
 
-pub returns-in-Appended-clause-answer : goal.returns-in-Appended-clause-answer
-returns-in-Appended-clause-answer g c =
+pub returns-in-Appended-clause-taken : goal.returns-in-Appended-clause-taken
+returns-in-Appended-clause-taken g c =
     let core = c.self.inside in
     let log : Log = c.append.new.self in
     let plan : Planned = g.C.Change.planned c.args.change in
@@ -179,7 +181,8 @@ returns-in-Appended-clause-answer g c =
     let there : Residents = c.keep.new.present in
     let left : Residents = c.end.new.present in
     let seen : CoreState = core_of core.log core.inodes core.begun core.out.items core.holds old.blocks before
-    core.boot (length core.log_calls.items) (length core.inst_calls.items) in
+    core.boot (length core.log_calls.items) (length core.inst_calls.items)
+    (length core.refused.items) in
     let own : IsOwn seen c.args.tx plan =
     subst (λ (old : CoreState). IsOwn old c.args.tx plan) (sym c.self.view_is) c.requires.own in
     let is : there.blocks ≡ refreshed log old.blocks =
