@@ -6,11 +6,11 @@ ghost use Rattle.clap.specs.Words.{HasKind, app_of, fault_of, found_of, kind_of,
 ghost use Rattle.clap.specs.Words.{rule_of, subcommand_rows_of};
 ghost use Rattle.clap.specs.declared.Command.TheViews.{out-Command};
 ghost use Rattle.nfsd_words.specs.declared.Args.{Args as Asked};
-ghost use Rattle.nfsd_words.specs.Words.{Asks, HasMeaning, IsAsked, WordsAsk, check_command, default_rule};
-ghost use Rattle.nfsd_words.specs.Words.{fifth_of_program, first_of_format, first_of_program, first_of_serve};
-ghost use Rattle.nfsd_words.specs.Words.{format_command, fourth_of_program, image_rule, number_rule, once_command};
-ghost use Rattle.nfsd_words.specs.Words.{required_rule, second_of_program, serve_command, show_command, text_rule};
-ghost use Rattle.nfsd_words.specs.Words.{third_of_program, whole_program};
+ghost use Rattle.nfsd_words.specs.Words.{Asks, HasMeaning, IsAsked, WordsAsk, bare_program, check_command};
+ghost use Rattle.nfsd_words.specs.Words.{default_rule, fifth_of_program, first_of_format, first_of_program};
+ghost use Rattle.nfsd_words.specs.Words.{first_of_serve, format_command, fourth_of_program, image_rule, number_rule};
+ghost use Rattle.nfsd_words.specs.Words.{once_command, required_rule, second_of_program, serve_command};
+ghost use Rattle.nfsd_words.specs.Words.{show_command, text_rule, third_of_program, whole_program};
 
 mod scripts;
 
@@ -47,7 +47,7 @@ const TIME_OF_CALLS: &str =
     "When the calls come, in seconds since 1970, from 0 to 4294967295, without a default";
 
 /// What the arguments ask for.
-#[derive(Clone, Copy, Debug, PartialEq, Eq)]
+#[derive(Clone, Copy)]
 pub enum Args<'a> {
     /// Makes an image anew.
     Format {
@@ -213,11 +213,16 @@ fn program_up_to_once<'a>(alloc: Global) -> Result<Command<'a>, AllocError>
 fn program_up_to_format<'a>(alloc: Global) -> Result<Command<'a>, AllocError>
     ensures { IfOk result (λ command. app_of command ≡ first_of_program) }
 {
+    program_before_commands(alloc).subcommand(format_words(alloc)?)
+}
+
+fn program_before_commands<'a>(alloc: Global) -> Command<'a>
+    ensures { app_of result ≡ bare_program }
+{
     Command::new(alloc, "nfsd")
         .about("Keeps files in an image of blocks, and serves them by NFS version 3")
         .version(VERSION)
         .subcommand_required(true)
-        .subcommand(format_words(alloc)?)
 }
 
 fn format_words<'a>(alloc: Global) -> Result<Command<'a>, AllocError>
@@ -248,7 +253,7 @@ fn once_words<'a>(alloc: Global) -> Result<Command<'a>, AllocError>
     Command::new(alloc, "once")
         .about("Answers the calls of standard input on standard output, up to the end of input")
         .arg(image(alloc, OLD_FILE))?
-        .arg(number(alloc, "time", TIME_OF_CALLS).required(true))
+        .arg(number_asked(alloc, "time", TIME_OF_CALLS))
 }
 
 fn serve_words<'a>(alloc: Global) -> Result<Command<'a>, AllocError>
@@ -321,4 +326,11 @@ fn number_or<'a>(alloc: Global, name: &'a str, default: &'a str, help: &'a str) 
     ensures local { result.global ≡ false }
 {
     number(alloc, name, help).default_value(default)
+}
+
+fn number_asked<'a>(alloc: Global, name: &'a str, help: &'a str) -> Arg<'a>
+    ensures rule { rule_of result ≡ required_rule name.entry.now }
+    ensures local { result.global ≡ false }
+{
+    number(alloc, name, help).required(true)
 }
