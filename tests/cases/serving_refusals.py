@@ -90,7 +90,7 @@ class Asking:
 
 
 def asked_of(tree):
-    """The calls of an image with a file and a directory of 150 names, by their titles."""
+    """The calls of an image with a file and a directory of 60 names, by their titles."""
     file, wide = tree.below(b"file"), tree.below(b"wide")
     return {
         "a_mode": Asking(
@@ -108,8 +108,8 @@ def asked_of(tree):
 def image_of(place):
     """An image with these, which no opening has looked at yet."""
     root = images.directory({b"file": images.regular(), b"wide": images.directory(
-        {b"%d" % it: images.regular() for it in range(150)})})
-    return images.Image(root, 1024, 192).write(place.path("image"))
+        {b"%d" % it: images.regular() for it in range(60)})})
+    return images.Image(root, 1024, 96).write(place.path("image"))
 
 
 def refused_at(place, shared, path, asked, way, number):
