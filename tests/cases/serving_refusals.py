@@ -2,15 +2,13 @@
 and hasn't been done, or its connection is closed; and the server ends well, or by a fault of memory."""
 
 import collections
-import multiprocessing
 import os
-import shutil
 
 from cases import checking, images, nfs, wire
 from cases.allocations import library, restore
 from cases.conversing import ROOT, ROOT_USER
 from cases.refused_memory import files_of, system_error
-from cases.running import Place, contents, is_so
+from cases.running import contents, is_so
 from cases.tcp import Server
 
 CALLER, NO_VERIFIER = nfs.credential(*ROOT_USER), bytes(8)
@@ -140,41 +138,22 @@ def came_to(what, asked, told, files):
 
 
 def tried(place, shared, old, asked, way, number):
-    """What came of it in a folder of its own, and whether a growth was refused."""
-    folder = place.path(f"{way} {number}")
-    os.mkdir(folder)
-    own = Place(folder, place.program, place.top)
-    try:
-        path = own.path("image")
-        restore(path, old)
-        told, refused = refused_at(own, shared, path, asked, way, number)
-        return came_to(f"{way} {number}", asked, told, files_of(path)), refused
-    finally:
-        own.clear()
-        shutil.rmtree(folder)
-
-
-# What a process of the pool does with a number: it is a copy of this one, and has it from here.
-GIVEN = []
-
-
-def tried_here(number):
-    return GIVEN[0](number)
+    """What came of it, and whether a growth was refused."""
+    path = place.path("served")
+    restore(path, old)
+    told, refused = refused_at(place, shared, path, asked, way, number)
+    return came_to(f"{way} {number}", asked, told, files_of(path)), refused
 
 
 def case_of(title, way):
     def tries(place):
         shared, path = library(place, LIBRARY), image_of(place)
         old, asked = contents(path), asked_of(checking.tree_of(path))[title]
-        GIVEN[:] = [lambda number: tried(place, shared, old, asked, way, number)]
-        outcomes, at, step = collections.Counter(), 1, 8 * os.cpu_count()
-        # (a thread may not start a process as the cases do)
-        with multiprocessing.get_context("fork").Pool(os.cpu_count()) as pool:
-            is_met = True
-            while is_met:
-                found = pool.map(tried_here, range(at, at + step), chunksize=1)
-                outcomes.update(what for what, _ in found)
-                is_met, at = all(refused for _, refused in found), at + step
+        outcomes, number, is_met = collections.Counter(), 0, True
+        while is_met:
+            number += 1
+            what, is_met = tried(place, shared, old, asked, way, number)
+            outcomes[what] += 1
         # Of the first growths no connection comes about, and where each behind one is refused nothing can be told.
         is_so(f"{outcomes}", outcomes["closed"] > 0 and outcomes["answered"] > 0 and (way == "f" or outcomes["told"] > 0))
 
