@@ -1,5 +1,6 @@
 -- The data of a WRITE are the last of its arguments, and so of the message.
 use Rattle.std.proofs.Common.{◌≡◌, ◌≤◌, ◌+◌, ◌-◌, ◌∙◌, ℕ, List, ◌++◌, length, take, drop, replicate, Result, Ok, Err, IfOk, IfErr, inr, ap, sym, refl, arith}
+use Rattle.std.specs.Prelude.{alloc_error}
 use Rattle.std.proofs.Common.{append_assoc, length-append}
 use Rattle.std.proofs.lemmas.List.{drop_at, length-drop, length-replicate, take-append-drop, take_all, take_at}
 use Rattle.nfs_types.specs.declared.call.Call.TheVariants as calls
@@ -55,6 +56,6 @@ from_on bytes from = take_all (length bytes - from) (drop from bytes) (omega (ar
 
 -- what is made of what was read is the call, unless memory was refused
 pub made : (result : Result ProgramCall XdrFault) (read : Result ProgramCall XdrFault) (call : ProgramCall)
-    → IfOk result (λ c. c ≡ call) → IfErr result (λ e. e ≡ NoMemory) → read ≡ Ok call → GivesWhole result read
+    → IfOk result (λ c. c ≡ call) → IfErr result (λ e. e ≡ NoMemory alloc_error) → read ≡ Ok call → GivesWhole result read
 made (Ok c) read call ok err is = is ∙ ap (λ (x : ProgramCall). Ok x) (sym ok)
 made (Err e) read call ok err is = inr (err, call, is)

@@ -1,6 +1,6 @@
 //! Reading the arguments of a call (RFC 1813, sections 3.3 and 5.2). Each is read whole before anything is
 //! copied, so that memory is refused only to a call that can be read.
-ghost use Rattle.std.specs.Prelude.{◌≡◌, ◌<◌, ◌≤◌, ◌+◌, ◌-◌, ℕ, get_or, take, drop, length, IfOk, IfErr};
+ghost use Rattle.std.specs.Prelude.{◌≡◌, ◌<◌, ◌≤◌, ◌+◌, ◌-◌, ℕ, get_or, take, drop, length, IfOk, IfErr, alloc_error};
 ghost use Rattle.nfs_types.specs.declared.call.Call.TheVariants as calls;
 ghost use Rattle.nfs_types.specs.declared.program.MountProcedure.TheVariants as mount;
 ghost use Rattle.nfs_types.specs.declared.program.Procedure.TheVariants as nfs;
@@ -229,7 +229,7 @@ fn owned_write(
     requires { EndsWith message.now write.bytes.now }
     ensures ok { IfOk result (λ c. c ≡ program_calls.Nfs (calls.Write (record { bytes = write.entry.file.now })
         write.entry.offset write.entry.count write.entry.stability write.entry.bytes.now)) }
-    ensures err { IfErr result (λ e. e ≡ XdrFault.NoMemory) }
+    ensures err { IfErr result (λ e. e ≡ XdrFault.NoMemory alloc_error) }
 {
     Ok(ProgramCall::Nfs(Call::Write {
         file: handle(alloc, write.file)?,
@@ -244,7 +244,7 @@ fn owned_write(
 fn last_of(message: &Bytes, len: usize) -> Result<SharedOctets, XdrFault>
     requires { len + padding len ≤ length message.now }
     ensures ok { IfOk result (λ s. s ≡ take len (drop (length message.now - (len + padding len)) message.now)) }
-    ensures err { IfErr result (λ e. e ≡ XdrFault.NoMemory) }
+    ensures err { IfErr result (λ e. e ≡ XdrFault.NoMemory alloc_error) }
 {
     let padding = (4 - len % 4) % 4;
     let from = message.len() - (len + padding);
@@ -478,14 +478,14 @@ fn read_path<'a>(reader: &mut Reader<'a>) -> Result<&'a [u8], XdrFault>
 // Copies of bytes.
 fn octets(alloc: Global, bytes: &[u8]) -> Result<Octets, XdrFault>
     ensures ok { IfOk result (λ o. o ≡ bytes.now) }
-    ensures err { IfErr result (λ e. e ≡ XdrFault.NoMemory) }
+    ensures err { IfErr result (λ e. e ≡ XdrFault.NoMemory alloc_error) }
 {
     Ok(Octets::copied(alloc, bytes)?)
 }
 
 fn handle(alloc: Global, bytes: &[u8]) -> Result<Handle, XdrFault>
     ensures ok { IfOk result (λ h. h ≡ record { bytes = bytes.now }) }
-    ensures err { IfErr result (λ e. e ≡ XdrFault.NoMemory) }
+    ensures err { IfErr result (λ e. e ≡ XdrFault.NoMemory alloc_error) }
 {
     Ok(Handle {
         bytes: octets(alloc, bytes)?,
@@ -497,7 +497,7 @@ fn directory_name(alloc: Global, name: NameBytes<'_>) -> Result<DirectoryName, X
       directory = record { bytes = name.entry.directory.now };
       name = name.entry.name.now;
     }) }
-    ensures err { IfErr result (λ e. e ≡ XdrFault.NoMemory) }
+    ensures err { IfErr result (λ e. e ≡ XdrFault.NoMemory alloc_error) }
 {
     Ok(DirectoryName {
         directory: handle(alloc, name.directory)?,

@@ -1,6 +1,6 @@
 //! Writing the results of calls (RFC 1813, sections 3.3 and 5.2).
 ghost use Rattle.std.specs.Prelude.{◌≡◌, ◌⊎◌, ◌++◌, ◌+◌, ◌-◌, ◌^◌, ◌≤◌, length, min, true, false, IfOk, IfErr};
-ghost use Rattle.std.specs.Prelude.{IfSome, IfNone};
+ghost use Rattle.std.specs.Prelude.{IfSome, IfNone, alloc_error};
 ghost use Rattle.xdr.specs.Writing.{Writes, WritesBytes};
 ghost use Rattle.xdr.specs.declared.fault.XdrFault.TheVariants.{Length, NoMemory};
 ghost use Rattle.xdr.specs.Items.{word};
@@ -64,7 +64,7 @@ pub fn reply_len(alloc: Global, reply: &Reply) -> Option<usize>
 /// The result of a procedure of NFS.
 pub fn encode_reply(alloc: Global, reply: &Reply) -> Result<Vec<u8>, XdrFault>
     ensures ok { IfOk result (λ bytes. (bytes.items ≡ nfs_result_bytes reply.now) × (nfs_too_long reply.now ≡ false)) }
-    ensures err { IfErr result (λ e. ((e ≡ Length) × (nfs_too_long reply.now ≡ true)) ⊎ (e ≡ NoMemory)) }
+    ensures err { IfErr result (λ e. ((e ≡ Length) × (nfs_too_long reply.now ≡ true)) ⊎ (e ≡ NoMemory alloc_error)) }
 {
     let mut out = Writer::new(alloc);
     put_reply(&mut out, reply)?;

@@ -79,7 +79,7 @@ abbrev pub Tells : Cutter → Result Advance RpcFault → Cutter → Type 0
 Tells old (Ok Waits) new = Waiting new
 Tells old (Ok GoesOn) new = ahead new < ahead old
 Tells old (Ok Whole) new = new.stage ≡ Inside true 0
-Tells old (Err NoMemory) new = Unit {0}
+Tells old (Err (NoMemory error)) new = Unit {0}
 Tells old (Err TooLong) new = IsTooLong (text_of new)
 
 -- what a step leaves
@@ -92,7 +92,7 @@ pub record Advances (old : Cutter) (result : Result Advance RpcFault) (new : Cut
 abbrev pub HasScanned : Result Bool RpcFault → Cutter → Type 0
 HasScanned (Ok true) new = new.stage ≡ Inside true 0
 HasScanned (Ok false) new = Waiting new
-HasScanned (Err NoMemory) new = Unit {0}
+HasScanned (Err (NoMemory error)) new = Unit {0}
 HasScanned (Err TooLong) new = IsTooLong (text_of new)
 
 -- what it leaves

@@ -47,7 +47,7 @@ impl<'a> SpelledGids<'a> {
         match read_numbers(alloc, count as u32, &mut reader) {
             Ok(numbers) => Ok(numbers),
             Err(fault) => match fault {
-                XdrFault::NoMemory => Err(AllocError),
+                XdrFault::NoMemory(error) => Err(error),
                 _ => unreachable!(),
             },
         }

@@ -1,7 +1,7 @@
 //! The machine that cuts records out of a stream. It looks at each byte once: what it has looked at it takes
 //! off the front, marks are let go, and the rest is gathered in one buffer.
 ghost use Rattle.std.specs.Prelude.{◌≡◌, ◌<◌, ◌≤◌, ◌^◌, ◌++◌, ◌==◌, [], Bool, true, false, length, take, drop};
-ghost use Rattle.std.specs.Prelude.{ℕ, IfOk, IfErr, IfSome, IsSome, OnOk, OnErr};
+ghost use Rattle.std.specs.Prelude.{ℕ, IfOk, IfErr, IfSome, IsSome, OnOk, OnErr, alloc_error};
 ghost use Rattle.xdr.specs.Items.{word};
 ghost use Rattle.rpc.specs.Records.{mark as mark_of, IsRecord};
 ghost use Rattle.rpc.specs.Cutting.{Advances, IsCut, IsOutside, Looks, held_by, taken_text, text_of};
@@ -187,7 +187,7 @@ impl Cutter {
         ensures pending { OnOk result (self.new.pending.items ≡ drop count self.old.pending.items) }
         ensures content { OnOk result (self.new.content.items
             ≡ self.old.content.items ++ take count self.old.pending.items) }
-        ensures err { IfErr result (λ e. e ≡ RpcFault.NoMemory) }
+        ensures err { IfErr result (λ e. e ≡ RpcFault.NoMemory alloc_error) }
         ensures is_preserved { OnErr result ((text_of self.new ≡ text_of self.old)
             × (taken_text self.new.taken.items ≡ taken_text self.old.taken.items)
             × (self.new.content.items ≡ self.old.content.items)) }
@@ -195,7 +195,7 @@ impl Cutter {
     {
         self.content
             .extend_from_slice(&self.pending.as_slice()[..count])
-            .map_err(|_| RpcFault::NoMemory)?;
+            .map_err(|error| RpcFault::NoMemory(error))?;
         self.take_off(count);
         Ok(())
     }
@@ -221,13 +221,13 @@ impl Cutter {
         ensures cut { IsCut self.new }
         ensures found { IfOk result (λ content. IsRecord (taken_text self.old.taken.items) content
             × (text_of self.new ≡ self.old.pending.items)) }
-        ensures err { IfErr result (λ e. (e ≡ RpcFault.NoMemory) × (text_of self.new ≡ text_of self.old)) }
+        ensures err { IfErr result (λ e. (e ≡ RpcFault.NoMemory alloc_error) × (text_of self.new ≡ text_of self.old)) }
     {
         let length = self.content.len();
         let record = self
             .content
             .freeze_to(length)
-            .map_err(|_| RpcFault::NoMemory)?;
+            .map_err(|error| RpcFault::NoMemory(error))?;
         self.stage = Stage::Fresh;
         self.taken = Log::new();
         Ok(record)

@@ -20,7 +20,7 @@ use bytes::Bytes;
 use disk::CrashDisk;
 use nfs_types::Moment;
 use rpc::{Records, RpcFault};
-use std::alloc::{AllocError, Global};
+use std::alloc::Global;
 use std::io::{ErrorKind, Read, Write};
 use store::{Store, a_settled_store_stays_open, settle};
 use store_promise::{a_stop_leaves_a_beginning, an_open_store_preserves_its_files};
@@ -170,7 +170,7 @@ fn serve_piece<D: CrashDisk, W: Write>(
 {
     match records.feed(piece) {
         Ok(()) => serve_records(alloc, store, records, writer, moment, count),
-        Err(AllocError) => Err(SessionFault::NoMemory),
+        Err(_) => Err(SessionFault::NoMemory),
     }
 }
 
@@ -246,7 +246,7 @@ fn next_record(records: &mut Records) -> Result<Option<Bytes>, SessionFault>
 {
     match records.next() {
         Ok(record) => Ok(record),
-        Err(RpcFault::NoMemory) => Err(SessionFault::NoMemory),
+        Err(RpcFault::NoMemory(_)) => Err(SessionFault::NoMemory),
         Err(RpcFault::TooLong) => Err(SessionFault::Record),
     }
 }

@@ -104,7 +104,7 @@ fn judge_request(
     };
     match decode_call(alloc, procedure, message, from) {
         Ok(call) => called(alloc, xid, caller, call),
-        Err(XdrFault::NoMemory) => refused(xid, Refusal::SystemError),
+        Err(XdrFault::NoMemory(_)) => refused(xid, Refusal::SystemError),
         Err(_) => refused(xid, Refusal::GarbageArguments),
     }
 }

@@ -1,6 +1,6 @@
 //! Replies as they go onto the stream.
 ghost use Rattle.std.specs.Prelude.{◌≡◌, ◌⊎◌, ◌<◌, ◌≤◌, ◌+◌, ◌-◌, ◌^◌, ◌++◌, false, true, length as len, min, vec_capacity};
-ghost use Rattle.std.specs.Prelude.{IfErr, IfNone, IfOk, IfSome, OnErr, OnOk};
+ghost use Rattle.std.specs.Prelude.{IfErr, IfNone, IfOk, IfSome, OnErr, OnOk, alloc_error};
 ghost use Rattle.session_wire.specs.Replies.{body_of, body_too_long, reply_bytes as bytes_of, IsTooLong};
 ghost use Rattle.rpc.specs.Records.{fragment};
 ghost use Rattle.xdr.specs.Items.{word};
@@ -18,11 +18,11 @@ use xdr::{Writer, XdrFault};
 const ACCEPTED_BYTES: usize = 24;
 
 /// The bytes of a reply, as a record of one fragment. One that has a length of 2^32 or more in it, or 2^31
-/// bytes in all, is `Length`; where memory is refused it is `NoMemory`.
+/// bytes in all, is `Length`; where memory is refused it is `NoMemory`, with that error.
 pub fn reply_bytes(alloc: Global, xid: u32, reply: RpcReply) -> Result<Vec<u8>, XdrFault>
     ensures ok { IfOk result (λ bytes. bytes.items ≡ fragment true (bytes_of xid (body_of reply.entry))) }
     ensures fits { IfOk result (λ _. IsTooLong xid (body_of reply.entry) → ⊥) }
-    ensures err { IfErr result (λ e. ((e ≡ Length) × IsTooLong xid (body_of reply.entry)) ⊎ (e ≡ NoMemory)) }
+    ensures err { IfErr result (λ e. ((e ≡ Length) × IsTooLong xid (body_of reply.entry)) ⊎ (e ≡ NoMemory alloc_error)) }
 {
     let mut bytes = Vec::new(alloc);
     append_reply(alloc, &mut bytes, xid, reply)?;
@@ -39,7 +39,7 @@ pub fn append_reply(
 ) -> Result<(), XdrFault>
     ensures ok { OnOk result (out.new.items ≡ out.old.items ++ fragment true (bytes_of xid (body_of reply.entry))) }
     ensures fits { OnOk result (IsTooLong xid (body_of reply.entry) → ⊥) }
-    ensures err { IfErr result (λ e. ((e ≡ Length) × IsTooLong xid (body_of reply.entry)) ⊎ (e ≡ NoMemory)) }
+    ensures err { IfErr result (λ e. ((e ≡ Length) × IsTooLong xid (body_of reply.entry)) ⊎ (e ≡ NoMemory alloc_error)) }
     ensures has_space { len out.old.items + len (fragment true (bytes_of xid (body_of reply.entry)))
         ≤ vec_capacity out.old → OnErr result (IsTooLong xid (body_of reply.entry)) }
     ensures refused { OnErr result (out.new.items ≡ out.old.items) }

@@ -3,10 +3,11 @@ use Rattle.std.proofs.Common.{◌≡◌, ℕ, zero, suc, Bool, true, false, cond
 use Rattle.std.specs.Int.{Width, w32}
 use Rattle.xdr.specs.declared.fault.XdrFault.{XdrFault}
 use Rattle.xdr.specs.declared.fault.XdrFault.TheVariants.{Short, Padding, Value, Length, Left, NoMemory}
+use Rattle.std.specs.Prelude.{alloc_error}
 use Rattle.xdr.specs.Reading.{◌>>=◌, number_at, flag_of, flag_at, opaque_at, eight_at, optional_at, end_at}
 
 abbrev pub Never : {A : Type 0} → Result A XdrFault → Type 0
-Never r = r ≡ Err NoMemory → ⊥
+Never r = r ≡ Err (NoMemory alloc_error) → ⊥
 
 pub bind : {A B : Type 0} (r : Result A XdrFault) (f : A → Result B XdrFault) → Never r
     → ((x : A) → Never (f x)) → Never (r >>= f)

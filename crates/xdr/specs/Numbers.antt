@@ -9,4 +9,4 @@ fault_number Padding = 2
 fault_number Value = 3
 fault_number Length = 4
 fault_number Left = 5
-fault_number NoMemory = 6
+fault_number (NoMemory error) = 6

@@ -1,6 +1,6 @@
 -- Reading items from left to right, with the first refusal that is met (RFC 4506).
 use Rattle.std.specs.Prelude.{◌≡◌, ◌⊎◌, ℕ, zero, suc, ◌+◌, Bool, true, false, List, [], ◌∷◌, length, take}
-use Rattle.std.specs.Prelude.{drop, Option, Some, None, Result, Ok, Err, nat_lt, ◌==◌, if◌then◌else◌}
+use Rattle.std.specs.Prelude.{drop, Option, Some, None, Result, Ok, Err, nat_lt, ◌==◌, if◌then◌else◌, alloc_error}
 use Rattle.std.specs.Int.{Width, w32, byte_len, from_be_bytes}
 use Rattle.std.specs.List.{list_all}
 use Rattle.xdr.specs.Items.{padding}
@@ -21,12 +21,12 @@ Reads view (Err e) read = read ≡ Err e
 -- the same, but that an allocation may have failed
 abbrev pub Gives : {X Y : Type 0} → (X → Y) → Result X XdrFault → Result Y XdrFault → Type 0
 Gives view (Ok x) read = read ≡ Ok (view x)
-Gives view (Err e) read = (read ≡ Err e) ⊎ (e ≡ NoMemory)
+Gives view (Err e) read = (read ≡ Err e) ⊎ (e ≡ NoMemory alloc_error)
 
 -- the same, where an allocation fails only once all is read
 abbrev pub GivesWhole : {Y : Type 0} → Result Y XdrFault → Result Y XdrFault → Type 0
 GivesWhole (Ok y) read = read ≡ Ok y
-GivesWhole {Y} (Err e) read = (read ≡ Err e) ⊎ ((e ≡ NoMemory) × (y : Y) × (read ≡ Ok y))
+GivesWhole {Y} (Err e) read = (read ≡ Err e) ⊎ ((e ≡ NoMemory alloc_error) × (y : Y) × (read ≡ Ok y))
 
 -- a number is so many bytes, the greatest first
 abbrev pub number_at : Width → List ℕ → Result (ℕ × List ℕ) XdrFault

@@ -1,5 +1,5 @@
 -- What a writer did to bytes, and why it refused.
-use Rattle.std.specs.Prelude.{◌≡◌, ◌⊎◌, ◌++◌, ◌+◌, ◌<◌, ◌≤◌, ℕ, Bool, true, false, List, length, Result, Ok, Err}
+use Rattle.std.specs.Prelude.{◌≡◌, ◌⊎◌, ◌++◌, ◌+◌, ◌<◌, ◌≤◌, ℕ, Bool, true, false, List, length, Result, Ok, Err, alloc_error}
 use Rattle.xdr.specs.declared.fault.XdrFault.{XdrFault}
 use Rattle.xdr.specs.declared.fault.XdrFault.TheVariants.{Length, NoMemory}
 use Rattle.xdr.specs.Codes.{Code}
@@ -15,7 +15,7 @@ pub record WriterState : Type 0 where
 -- refuses is for want of memory: one that counts refuses nothing so, nor one whose capacity is so many bytes.
 abbrev pub RefusesToWrite : XdrFault → Bool → WriterState → ℕ → Type 0
 RefusesToWrite e too_long old count = ((e ≡ Length) × (too_long ≡ true))
-    ⊎ ((e ≡ NoMemory) × (old.capacity < count) × (old.counts ≡ false))
+    ⊎ ((e ≡ NoMemory alloc_error) × (old.capacity < count) × (old.counts ≡ false))
 
 -- the bytes stand behind what was there
 abbrev pub WritesBytes : Result (Unit {0}) XdrFault → WriterState → WriterState → List ℕ → Bool → Type 0

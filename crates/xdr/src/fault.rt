@@ -1,5 +1,5 @@
 //! Why bytes are no spelling of what was to be read.
-ghost use Rattle.std.specs.Prelude.{◌≡◌};
+ghost use Rattle.std.specs.Prelude.{◌≡◌, alloc_error};
 ghost use Rattle.xdr.specs.Numbers.{fault_number};
 ghost use Rattle.xdr.specs.declared.fault.XdrFault.TheVariants.{NoMemory};
 
@@ -7,7 +7,7 @@ use std::alloc::{AllocError, AllocFailed};
 use thiserror::Error;
 
 /// The first item from the left that has no spelling, or no memory for it. Within an item `Length` comes
-/// before `Short`, and that before `Padding` or `Value`.
+/// before `Short`, and that before `Padding` or `Value`. `NoMemory` has the error of the allocation that failed.
 #[derive(Clone, Copy, Debug, PartialEq, Eq, Error)]
 pub enum XdrFault {
     #[error("the bytes end inside an item")]
@@ -21,7 +21,7 @@ pub enum XdrFault {
     #[error("bytes are left over")]
     Left,
     #[error("no memory")]
-    NoMemory,
+    NoMemory(AllocError),
 }
 
 impl XdrFault {
@@ -35,23 +35,23 @@ impl XdrFault {
             XdrFault::Value => 3,
             XdrFault::Length => 4,
             XdrFault::Left => 5,
-            XdrFault::NoMemory => 6,
+            XdrFault::NoMemory(_) => 6,
         }
     }
 }
 
 impl From<AllocError> for XdrFault {
-    ghost from_gives = { λ _ e. e ≡ NoMemory };
+    ghost from_gives = { λ _ e. e ≡ NoMemory alloc_error };
 
-    fn from(_e: AllocError) -> XdrFault {
-        XdrFault::NoMemory
+    fn from(error: AllocError) -> XdrFault {
+        XdrFault::NoMemory(error)
     }
 }
 
 impl<T: Drop> From<AllocFailed<T>> for XdrFault {
-    ghost from_gives = { λ _ e. e ≡ NoMemory };
+    ghost from_gives = { λ _ e. e ≡ NoMemory alloc_error };
 
-    fn from(_e: AllocFailed<T>) -> XdrFault {
-        XdrFault::NoMemory
+    fn from(failed: AllocFailed<T>) -> XdrFault {
+        XdrFault::NoMemory(AllocError::from(failed))
     }
 }

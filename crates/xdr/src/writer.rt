@@ -98,7 +98,9 @@ impl Writer {
         self.bytes
     }
 
-    /// Bytes as they are (RFC 4506, section 4.9), without zeros behind them.
+    /// Bytes as they are (RFC 4506, section 4.9), without zeros behind them. Inlined, an item of a fixed length is one
+    /// store where it is kept, and one sum where it is counted.
+    #[inline(always)]
     pub fn raw(&mut self, bytes: &[u8]) -> Result<(), XdrFault>
         ensures written { WritesBytes result self.old self.new (bytes.now) false }
         ensures refused { OnErr result (self.new.bytes ≡ self.old.bytes) }

@@ -52,7 +52,7 @@ impl<L: Ledger> Model for Answer<L> {
 }
 
 impl<L: Ledger> Answer<L> {
-    ghost use Rattle.std.specs.Prelude.{◌≡◌, ◌⊎◌, ◌++◌, false, true, Option, IfErr, OnErr, OnOk};
+    ghost use Rattle.std.specs.Prelude.{◌≡◌, ◌⊎◌, ◌++◌, false, true, Option, IfErr, OnErr, OnOk, alloc_error};
     ghost use Rattle.nfs_spec.specs.Model.Calls.{begins_transaction};
     ghost use Rattle.nfs_types.specs.declared.reply.Reply.TheVariants.{Null};
     ghost use Rattle.pool_requests.specs.Answers.Evident.{IsEvident, IsSubstitute, IsOwn, IsShownStable, answer_to};
@@ -160,7 +160,7 @@ impl<L: Ledger> Answer<L> {
     /// 2^31 bytes in all, is `Length`; where memory is refused it is `NoMemory`. Where it fails nothing changes.
     pub(crate) fn append_to(&self, alloc: Global, out: &mut Vec<u8>) -> Result<(), XdrFault>
         ensures ok { OnOk result (out.new.items ≡ out.old.items ++ spelled self.now) }
-        ensures err { IfErr result (λ e. ((e ≡ Length) × IsTooLong self.now.xid self.now.body) ⊎ (e ≡ NoMemory)) }
+        ensures err { IfErr result (λ e. ((e ≡ Length) × IsTooLong self.now.xid self.now.body) ⊎ (e ≡ NoMemory alloc_error)) }
         ensures refused { OnErr result (out.new.items ≡ out.old.items) }
     {
         append_reply(alloc, out, self.xid, reply_of(&self.body))

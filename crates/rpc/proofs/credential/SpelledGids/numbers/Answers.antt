@@ -1,4 +1,5 @@
 use Rattle.std.proofs.Common.{arith, ◌∙◌, ◌≡◌, ◌/◌, subst, Ok, Err, List, ℕ, length, inl, inr, ◌⊎◌}
+use Rattle.std.specs.Prelude.{alloc_error}
 use Rattle.xdr.specs.declared.fault.XdrFault.TheVariants.{NoMemory}
 use Rattle.rpc.specs.Credentials.{numbers_at}
 use Rattle.rpc.proofs.Spelled.{count_is, same_read, never_refused}
@@ -22,10 +23,10 @@ pub unreachable-requires : goal.unreachable-requires
 unreachable-requires c =
     let bytes : List ℕ = c.self.inside.bytes.now in
     let refused : (numbers_at (length bytes / 4) c.new-reader.result ≡ Err c.in-Err.fault)
-    ⊎ (c.in-Err.fault ≡ NoMemory) = c.in-Err.ensures in
+    ⊎ (c.in-Err.fault ≡ NoMemory alloc_error) = c.in-Err.ensures in
     elim refused [
       | inl at ↦ never_refused bytes c.in-Err.fault c.self.invariant
           (subst (λ (text : List ℕ). numbers_at (length bytes / 4) text ≡ Err c.in-Err.fault)
           c.new-reader.ensures at)
-      | inr memory ↦ c.in_default.not-NoMemory memory
+      | inr memory ↦ c.in_default.not-NoMemory alloc_error memory
     ]
