@@ -10,7 +10,7 @@ ghost use Rattle.txn_law.specs.CoreWindow.{PreservesHome, PreservesReads};
 ghost use Rattle.txn_law.specs.Group.{blocks_of};
 
 use crate::outcomes::Commit;
-use crate::records::{Record, block_of_each, can_pin_each, end, keep};
+use crate::records::{Record, block_of_each, can_count_pins, end, keep};
 use crate::refresh::refresh;
 use crate::{Change, Core, Object, Receipt, Tx};
 use disk::BlockNo;
@@ -84,6 +84,7 @@ impl<C: Change> Core<C> {
         are_sized(change.written());
         change.is_planned();
         self.present.lawful();
+        can_count_pins(&self.holds, &self.records);
         if let Err(error) = self.records.reserve(1) {
             return Err((tx, change, error));
         }
@@ -91,9 +92,6 @@ impl<C: Change> Core<C> {
             Ok(read) => read,
             Err(error) => return Err((tx, change, error)),
         };
-        if let Err(error) = can_pin_each(&self.present, read.as_slice()) {
-            return Err((tx, change, error));
-        }
         let group = match group_of(alloc, &self.present, &self.log, blocks, change.written()) {
             Ok(group) => group,
             Err(error) => return Err((tx, change, error)),

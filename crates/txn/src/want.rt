@@ -1,5 +1,5 @@
 //! Reading and claiming what a transaction works on.
-ghost use Rattle.std.specs.Prelude.{◌≡◌, ◌-◌, ◌<◌, Bool, if◌then◌else◌, IfOk, OnOk, OnErr, None, Some, true};
+ghost use Rattle.std.specs.Prelude.{◌≡◌, ◌+◌, ◌-◌, ◌^◌, ◌<◌, Bool, if◌then◌else◌, IfOk, OnOk, OnErr, None, Some, true};
 ghost use Rattle.std.specs.Prelude.{ℕ, IfSome, length};
 ghost use Rattle.disk.specs.Crash.{Image};
 ghost use Rattle.disk.specs.Device.{Content, Device, current, newest as newest_content};
@@ -24,6 +24,7 @@ ghost use Rattle.txn.specs.Pinned.{newly_in};
 ghost use Rattle.txn.specs.Source.{IsSource, IsSourceWithin};
 
 use crate::outcomes::{Claim, Want};
+use crate::records::can_count_pins;
 use crate::{Change, Core, FetchIo, Tx};
 use disk::{Block, BlockNo, SharedBlock};
 use locks::{Hold, Table, for_fetching, for_reading, for_writing};
@@ -117,6 +118,7 @@ impl<C: Change> Core<C> {
         ensures refused { OnErr result (self.new ≡ self.old) }
     {
         self.holds.lawful();
+        can_count_pins(&self.holds, &self.records);
         take(
             &mut self.holds,
             &mut self.present,
@@ -140,6 +142,7 @@ impl<C: Change> Core<C> {
     {
         if let Some(bytes) = self.bytes_at(alloc, addr)? {
             self.holds.lawful();
+            can_count_pins(&self.holds, &self.records);
             take(
                 &mut self.holds,
                 &mut self.present,
@@ -185,6 +188,7 @@ impl<C: Change> Core<C> {
         self.holds.lawful();
         let block = hold.addr.block;
         let again = self.holds.is_held_by(hold.transaction, hold.addr);
+        can_count_pins(&self.holds, &self.records);
         self.present.bring(block, content)?;
         if let Err(none) = track(&mut self.holds, hold) {
             self.present.take_back(block);
@@ -241,7 +245,8 @@ fn settle(present: &mut Residency, block: BlockNo, again: bool)
 // Takes what a lock request is for that nothing keeps off, and pins its block for it, where the transaction hadn't taken
 // the address.
 fn take(holds: &mut Table, present: &mut Residency, hold: Hold) -> Result<(), AllocError>
-    requires { IsFree holds.old hold.transaction hold.addr hold.mode }
+    requires free { IsFree holds.old hold.transaction hold.addr hold.mode }
+    requires countable { pins_of present.old hold.addr.block + 1 < 2 ^ 128 }
     ensures taken { OnOk result (holds.new ≡ with_hold holds.old hold) }
     ensures pinned { OnOk result (Pins present.old (newly_in holds.old hold) present.new) }
     ensures refused { OnErr result (holds.new ≡ holds.old) }
