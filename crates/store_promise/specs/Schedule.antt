@@ -89,10 +89,10 @@ begun_after begun _ = begun
 -- the count of refusals rises by one with each step that is told NoMemory, and with no other
 abbrev pub refused_after : ℕ → Step → ℕ
 refused_after refused (step.Begun (Err (fault.NoMemory error))) = refused + 1
-refused_after refused (step.Wanted addr mode lock_answer.NoMemory) = refused + 1
-refused_after refused (step.Claimed block lock_answer.NoMemory) = refused + 1
-refused_after refused (step.Commit blocks committing.NoMemory) = refused + 1
-refused_after refused (step.Ended ending.NoMemory) = refused + 1
+refused_after refused (step.Wanted addr mode (lock_answer.NoMemory error)) = refused + 1
+refused_after refused (step.Claimed block (lock_answer.NoMemory error)) = refused + 1
+refused_after refused (step.Commit blocks (committing.NoMemory error)) = refused + 1
+refused_after refused (step.Ended (ending.NoMemory error)) = refused + 1
 refused_after refused _ = refused
 
 -- so it is after a step, or after none
@@ -184,7 +184,7 @@ IsLockAnswer run_state worker begun request lock_answer.Fetch =
     × IsSoOfNoOther run_state worker (has_loaded request.block)
 IsLockAnswer run_state worker begun request lock_answer.Loading = IsSoOfAnother run_state worker (is_fetching request.block)
 IsLockAnswer run_state worker begun request lock_answer.Outside = ⊥
-IsLockAnswer run_state worker begun request lock_answer.NoMemory = IsLeftFree run_state worker request
+IsLockAnswer run_state worker begun request (lock_answer.NoMemory error) = IsLeftFree run_state worker request
 
 -- what is asked for with an object, and with a whole block
 abbrev pub range_request_at : Addr → Mode → RangeRequest
@@ -214,7 +214,7 @@ IsCommitting o log blocks committing.Foreign = ⊥
 IsCommitting o log blocks committing.Spent = (log.broken ≡ false) × (HasNumbers o log blocks → ⊥)
 IsCommitting o log blocks committing.Full =
     (log.broken ≡ false) × HasNumbers o log blocks × (LOG_SLOTS < state_tail_after log blocks)
-IsCommitting o log blocks committing.NoMemory =
+IsCommitting o log blocks (committing.NoMemory error) =
     (log.broken ≡ false) × HasNumbers o log blocks × (state_tail_after log blocks ≤ LOG_SLOTS)
 
 -- The blocks that a commit of the transaction may name: each once, no more than a transaction may change, and each one
@@ -234,7 +234,7 @@ IsStepByPlan o run_state worker begun (step.Claimed block answer) =
     IsClaimAskedFor o begun block × IsClaimAnswer run_state worker begun block answer
 IsStepByPlan o run_state worker begun (step.Commit blocks answer) =
     AreChanged begun blocks × IsCommitting o run_state.log blocks answer
-IsStepByPlan o run_state worker begun (step.Ended ending.NoMemory) = Unit {0}
+IsStepByPlan o run_state worker begun (step.Ended (ending.NoMemory error)) = Unit {0}
 IsStepByPlan o run_state worker begun _ = ⊥
 
 -- what its call knew is taken again first, in its order, and answered as any lock request is
