@@ -99,7 +99,7 @@ module _ (before : Device) (tree : Tree) (first : ℕ) (holds : HoldsTree before
       → CountsCause cause before later
       → IsRefusedFor keeps_model cause before later → IsCauseOf cause before later first
   cause_is keeps_model fault.Device later is_preserved counts shows = counts
-  cause_is keeps_model fault.NoMemory later is_preserved counts shows = counts
+  cause_is keeps_model (fault.NoMemory error) later is_preserved counts shows = counts
   cause_is keeps_model fault.Magic later is_preserved counts shows = elim (shows.1 is_preserved holds.rest.certain) [
     | inl none ↦ absurd (has_blocks before.size (image_of before SUPER_BLOCK) good.super good.is_super
         good.size_is none)
