@@ -1,5 +1,5 @@
 -- How far a call is after a step of its worker, and what the step answers, by the stage that it was at.
-use Rattle.std.proofs.Common.{arith, ◌≡◌, ◌∙◌, refl, sym, ap, subst, true≢false, ℕ, ◌+◌, ◌^◌, ◌≤◌, ◌⊎◌, inl}
+use Rattle.std.proofs.Common.{arith, ◌≡◌, ◌∙◌, refl, sym, ap, subst, true≢false, ℕ, ◌+◌, ◌^◌, ◌≤◌, ◌⊎◌, inl, alloc_error}
 use Rattle.std.proofs.Common.{inr}
 use Rattle.std.proofs.Common.{Bool, true, false, ◌||◌, if◌then◌else◌, nat_le, is_some, Option, Some, None}
 use Rattle.std.proofs.Common.{Result, Ok, Err}
@@ -133,7 +133,7 @@ module _ (o : Outset) (now new : Opened) (after : IsAfter now new) where
   pub cause_then : (added : ℕ) (why : Cause) → HasCause o now added why → HasCause o new added why
   cause_then added cause.Io has = failed_then has
   cause_then added cause.Spent has = spent_then added has
-  cause_then added cause.NoMemory has = let more = after.further.refused in omega (arith, has, more)
+  cause_then added (cause.NoMemory error) has = let more = after.further.refused in omega (arith, has, more)
 
   -- the transaction of the call is still its own
   pub begun_then : (number : ℕ) → IsBegunFor o now number → IsBegunFor o new number
@@ -254,7 +254,7 @@ module _ (o : Outset) (now new : Opened) (s : Setting) (t : RunState) (from : Is
       (past_more o.store.device now.device new.device from.past after.past) (breaks is)
 
   -- memory was refused in the step
-  lacks : new.core.refused ≡ now.core.refused + 1 → HasCause o new 0 cause.NoMemory
+  lacks : new.core.refused ≡ now.core.refused + 1 → HasCause o new 0 (cause.NoMemory alloc_error)
   lacks one = let more = from.more_refused in omega (arith, one, more)
 
   -- why no transaction was begun
@@ -337,24 +337,24 @@ module _ (o : Outset) (now new : Opened) (s : Setting) (t : RunState) (from : Is
     taken_ok begun block (next ∷ later) none = none
 
     wanted_ok : (begun : Begun) (taken : Taken) (answer : LockAnswer) → NoneIn begun
-        → (answer ≡ lock_answer.Outside → ⊥) → (answer ≡ lock_answer.NoMemory → HasCause o new 0 cause.NoMemory)
+        → (answer ≡ lock_answer.Outside → ⊥) → (answer ≡ lock_answer.NoMemory alloc_error → HasCause o new 0 (cause.NoMemory alloc_error))
         → StandsWith o entry new (after_wanted begun taken answer)
     wanted_ok begun taken lock_answer.Held none inside lacked = held_ok begun taken begun.left none
     wanted_ok begun taken lock_answer.Fetch none inside lacked = none
     wanted_ok begun taken lock_answer.Busy none inside lacked = off_ok begun (lock_request_of taken) none
     wanted_ok begun taken lock_answer.Loading none inside lacked = off_ok begun (lock_request_of taken) none
     wanted_ok begun taken lock_answer.Outside none inside lacked = absurd (inside refl)
-    wanted_ok begun taken lock_answer.NoMemory none inside lacked = (none.0, none.1, 0, lacked refl)
+    wanted_ok begun taken (lock_answer.NoMemory error) none inside lacked = (none.0, none.1, 0, lacked refl)
 
     claimed_ok : (begun : Begun) (block : BlockNo) (answer : LockAnswer) → NoneIn begun
-        → (answer ≡ lock_answer.Outside → ⊥) → (answer ≡ lock_answer.NoMemory → HasCause o new 0 cause.NoMemory)
+        → (answer ≡ lock_answer.Outside → ⊥) → (answer ≡ lock_answer.NoMemory alloc_error → HasCause o new 0 (cause.NoMemory alloc_error))
         → StandsWith o entry new (after_claimed begun block answer)
     claimed_ok begun block lock_answer.Held none inside lacked = taken_ok begun block begun.left none
     claimed_ok begun block lock_answer.Fetch none inside lacked = none
     claimed_ok begun block lock_answer.Busy none inside lacked = off_ok begun (lock_request.Claim block) none
     claimed_ok begun block lock_answer.Loading none inside lacked = off_ok begun (lock_request.Claim block) none
     claimed_ok begun block lock_answer.Outside none inside lacked = absurd (inside refl)
-    claimed_ok begun block lock_answer.NoMemory none inside lacked = (none.0, none.1, 0, lacked refl)
+    claimed_ok begun block (lock_answer.NoMemory error) none inside lacked = (none.0, none.1, 0, lacked refl)
 
     never_outside : (begun : Begun) (request : RangeRequest) (answer : LockAnswer) → IsLockAnswer t 0 begun request answer
         → answer ≡ lock_answer.Outside → ⊥
@@ -377,7 +377,7 @@ module _ (o : Outset) (now new : Opened) (s : Setting) (t : RunState) (from : Is
     commit_ok begun blocks (committing.Committed place) none not may spent refusals = absurd (true≢false not)
     commit_ok begun blocks committing.Full none not may spent refusals = none
     commit_ok begun blocks committing.Foreign none not may spent refusals = none
-    commit_ok begun blocks committing.NoMemory none not may spent refusals = (none.0, none.1, 0, lacks refusals)
+    commit_ok begun blocks (committing.NoMemory error) none not may spent refusals = (none.0, none.1, 0, lacks refusals)
     commit_ok begun blocks committing.Broken none not may spent refusals =
         (none.0, none.1, 0, broke (sym from.broken_is ∙ may))
     commit_ok begun blocks committing.Spent none not may spent refusals =
@@ -495,10 +495,10 @@ module _ (o : Outset) (now new : Opened) (s : Setting) (t : RunState) (from : Is
         → Tells o entry a.verdict new
     planning_tells begun (step.Commit blocks (committing.Committed place)) t2 a not stands refusals proven =
         absurd (true≢false not)
-    planning_tells begun (step.Ended ending.NoMemory) t2 a not stands refusals proven = none_tells a stands.0
+    planning_tells begun (step.Ended (ending.NoMemory error)) t2 a not stands refusals proven = none_tells a stands.0
         (inr (record {
           begins = stands.1.begins;
-          why = cause.NoMemory;
+          why = (cause.NoMemory alloc_error);
           verdict_is_reply = proven.1;
           added = 0;
           because = lacks refusals;
@@ -507,7 +507,7 @@ module _ (o : Outset) (now new : Opened) (s : Setting) (t : RunState) (from : Is
     planning_tells begun (step.Ended ending.Again) t2 a not stands refusals proven = absurd proven
     planning_tells begun (step.Commit blocks committing.Full) t2 a not stands refusals proven = absurd proven
     planning_tells begun (step.Commit blocks committing.Foreign) t2 a not stands refusals proven = absurd proven
-    planning_tells begun (step.Commit blocks committing.NoMemory) t2 a not stands refusals proven = absurd proven
+    planning_tells begun (step.Commit blocks (committing.NoMemory error)) t2 a not stands refusals proven = absurd proven
     planning_tells begun (step.Commit blocks committing.Broken) t2 a not stands refusals proven = absurd proven
     planning_tells begun (step.Commit blocks committing.Spent) t2 a not stands refusals proven = absurd proven
     planning_tells begun _ t2 a not stands refusals proven = absurd proven
@@ -523,7 +523,7 @@ module _ (o : Outset) (now new : Opened) (s : Setting) (t : RunState) (from : Is
           added = stands.2;
           because = cause_then o now new after stands.2 why stands.3;
         }))
-    refused_tells begun why (step.Ended ending.NoMemory) t2 a stands proven = absurd proven
+    refused_tells begun why (step.Ended (ending.NoMemory error)) t2 a stands proven = absurd proven
     refused_tells begun why (step.Ended ending.Again) t2 a stands proven = absurd proven
     refused_tells begun why _ t2 a stands proven = absurd proven
 

@@ -164,7 +164,7 @@ no_entry boot places progress (Some (step.Commit added (committing.Committed pla
     absurd (true≢false not)
 no_entry boot places progress (Some (step.Commit added committing.Full)) entry not is = is
 no_entry boot places progress (Some (step.Commit added committing.Foreign)) entry not is = is
-no_entry boot places progress (Some (step.Commit added committing.NoMemory)) entry not is = is
+no_entry boot places progress (Some (step.Commit added (committing.NoMemory error))) entry not is = is
 no_entry boot places progress (Some (step.Commit added committing.Broken)) entry not is = is
 no_entry boot places progress (Some (step.Commit added committing.Spent)) entry not is = is
 no_entry boot places progress None entry not is = is
@@ -180,7 +180,7 @@ commit_step (Some (step.Commit added (committing.Committed place))) has =
     record { added = added; place = place; made_is = refl }
 commit_step (Some (step.Commit added committing.Full)) has = absurd (true≢false (sym has))
 commit_step (Some (step.Commit added committing.Foreign)) has = absurd (true≢false (sym has))
-commit_step (Some (step.Commit added committing.NoMemory)) has = absurd (true≢false (sym has))
+commit_step (Some (step.Commit added (committing.NoMemory error))) has = absurd (true≢false (sym has))
 commit_step (Some (step.Commit added committing.Broken)) has = absurd (true≢false (sym has))
 commit_step (Some (step.Commit added committing.Spent)) has = absurd (true≢false (sym has))
 commit_step None has = absurd (true≢false (sym has))
@@ -204,22 +204,22 @@ refused_more refused (step.Begun (Err (begin_fault.NoMemory error))) = omega ari
 refused_more refused (step.Wanted addr mode answer) = by answer
   where
     by : (answer : LockAnswer) → refused ≤ refused_after refused (step.Wanted addr mode answer)
-    by lock_answer.NoMemory = omega arith
+    by (lock_answer.NoMemory error) = omega arith
     by _ = omega arith
 refused_more refused (step.Claimed block answer) = by answer
   where
     by : (answer : LockAnswer) → refused ≤ refused_after refused (step.Claimed block answer)
-    by lock_answer.NoMemory = omega arith
+    by (lock_answer.NoMemory error) = omega arith
     by _ = omega arith
 refused_more refused (step.Commit blocks answer) = by answer
   where
     by : (answer : Committing) → refused ≤ refused_after refused (step.Commit blocks answer)
-    by committing.NoMemory = omega arith
+    by (committing.NoMemory error) = omega arith
     by _ = omega arith
 refused_more refused (step.Ended why) = by why
   where
     by : (why : Ending) → refused ≤ refused_after refused (step.Ended why)
-    by ending.NoMemory = omega arith
+    by (ending.NoMemory error) = omega arith
     by _ = omega arith
 refused_more refused _ = omega arith
 

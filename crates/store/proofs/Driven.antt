@@ -1,5 +1,5 @@
 -- Each round of a call that one thread drives leaves less of it.
-use Rattle.std.proofs.Common.{arith, ◌≡◌, ◌∙◌, refl, sym, ap, subst, true≢false, ℕ, ◌+◌, ◌-◌, ◌*◌, ◌<◌}
+use Rattle.std.proofs.Common.{arith, ◌≡◌, ◌∙◌, refl, sym, ap, subst, true≢false, ℕ, ◌+◌, ◌-◌, ◌*◌, ◌<◌, alloc_error}
 use Rattle.std.proofs.Common.{◌≤◌, ◌⊎◌, inl, inr}
 use Rattle.std.proofs.Common.{Bool, true, false, ◌||◌, if◌then◌else◌, nat_le, Option, Some, None}
 use Rattle.std.proofs.Common.{is_some}
@@ -460,7 +460,7 @@ lacked_so : (old new : WorkerAndCore) (tx : ℕ) (made : Step) → HasLacked tx 
     → Came Planning old (Some made) new
 lacked_so old new tx made has =
     goes_by Planning old made _ new (answered (left_in Planning old.worker.work old.core) new.worker
-    (record (with_snap new.worker old.worker) { begun = none_begun }) new.core verdict.NoMemory None has.worker)
+    (record (with_snap new.worker old.worker) { begun = none_begun }) new.core (verdict.NoMemory alloc_error) None has.worker)
     has.made_is refl refl
 
 goes : (old new : WorkerAndCore) (tx : ℕ) (made : Step) (next : Plan) → old.worker.begun.tx ≡ Some tx

@@ -158,7 +158,7 @@ pub record FindsNoNumber (o : Outset) (now : Opened) : Type 0 where
 abbrev pub HasCause : Outset → Opened → ℕ → Cause → Type 0
 HasCause o now added cause.Io = HasFailed o.store.core.log o.store.device now.device
 HasCause o now added cause.Spent = FindsNoNumber o now ⊎ FindsNoLogSpace o now added
-HasCause o now added cause.NoMemory = o.store.core.refused < now.core.refused
+HasCause o now added (cause.NoMemory error) = o.store.core.refused < now.core.refused
 
 -- ---- what it answers
 

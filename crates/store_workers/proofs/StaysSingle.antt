@@ -1,5 +1,5 @@
 -- A worker that is alone in its store stays alone by each of its steps.
-use Rattle.std.proofs.Common.{◌≡◌, ◌∙◌, refl, sym, ap, subst, true≢false, ℕ, Bool, true, false, not, ◌&&◌, ◌||◌}
+use Rattle.std.proofs.Common.{◌≡◌, ◌∙◌, refl, sym, ap, subst, true≢false, ℕ, Bool, true, false, not, ◌&&◌, ◌||◌, alloc_error}
 use Rattle.std.proofs.Common.{inl, inr, if◌then◌else◌, cond, nat_eq, Option, Some, None, is_some, List, [], ◌∷◌, ◌++◌, All}
 use Rattle.std.specs.Prelude.{IsSomeAnd, option_to_list}
 use Rattle.std.specs.List.{list_any}
@@ -549,7 +549,7 @@ module _ (old new : WorkerAndCore) (well_formed : IsWellFormed old.core) (single
           (ap (λ (s : State). s.begun.io) is)
           (subst (λ (c : CoreState). FetchesOnly None c) (sym core.0.core) none) (λ has_space. tt)
       committed_so made base added (commit.NoMemory back same error) io made_is core is =
-          single_by (Some made) new.worker new.core (Refused cause.NoMemory) None
+          single_by (Some made) new.worker new.core (Refused (cause.NoMemory alloc_error)) None
           (ap (λ (s : State). s.phase) is)
           (ap (λ (s : State). s.begun.io) is)
           (subst (λ (c : CoreState). FetchesOnly None c) (sym core.0.core) none) (λ has_space. tt)

@@ -1,6 +1,6 @@
 -- What lies ready after a worker's step is what the promise wants, and once it is told the worker stands
 -- between the events again.
-use Rattle.std.proofs.Common.{arith, ◌≡◌, ◌∙◌, refl, sym, ap, ap₂, subst, true≢false, ℕ, ◌+◌, zero, suc, Bool}
+use Rattle.std.proofs.Common.{arith, ◌≡◌, ◌∙◌, refl, sym, ap, ap₂, subst, true≢false, ℕ, ◌+◌, zero, suc, Bool, alloc_error}
 use Rattle.std.proofs.Common.{true, false, not, if◌then◌else◌}
 use Rattle.std.proofs.Common.{◌&&◌, Option, Some, None, Ok, Err, IfSome, is_some, List, [], ◌∷◌, ◌++◌, length}
 use Rattle.std.proofs.Common.{slice_get}
@@ -332,13 +332,13 @@ module _ (boot number : ℕ) (entries : List Entry) (old new : WorkerAndCore) (a
       by (claim.NoMemory back error) is = left (claim.NoMemory back error) refl (runs tx back tx_is is.0 stands)
 
   lacks : (tx : ℕ) (made : Step) → HasLacked tx old made new
-      → LeavesIt Planning (Some (step.Ended ending.NoMemory))
+      → LeavesIt Planning (Some (step.Ended (ending.NoMemory alloc_error)))
   lacks tx made has phase_is stands =
       let (job, job_is, rest) = some_of old.worker.work.job stands in
       so Planning _ _ has.worker
-      (answers Planning (step.Ended ending.NoMemory)
+      (answers Planning (step.Ended (ending.NoMemory alloc_error))
       (record (with_snap new.worker old.worker) { begun = none_begun })
-      verdict.NoMemory None job (run_progress.Planning old_begun) (with_job Planning job job_is)
+      (verdict.NoMemory alloc_error) None job (run_progress.Planning old_begun) (with_job Planning job job_is)
       (λ t answer has v p. (p, v)) at.entry)
 
   module _ (job : Job) (tx : ℕ) (done : Outcome) (added : List BlockNo) (tx_is : old.worker.begun.tx ≡ Some tx)
@@ -438,7 +438,7 @@ module _ (boot number : ℕ) (entries : List Entry) (old new : WorkerAndCore) (a
         (record (with_tx back Again planned) { known = without_off planned.known }) job job_is refl
         at.answer at.entry (runs tx back tx_is is.0.transaction stands)
     commits_by (commit.NoMemory back same error) is =
-        back_in back (step.Commit added committing.NoMemory) (Refused cause.NoMemory)
+        back_in back (step.Commit added (committing.NoMemory alloc_error)) (Refused (cause.NoMemory alloc_error))
         is.0.transaction refl at.entry
         (λ r. r)
     commits_by (commit.Broken back same) is =

@@ -1,5 +1,5 @@
 -- A worker's step, by cases.
-use Rattle.std.proofs.Common.{◌≡◌, refl, sym, ap, subst, ℕ, ◌⊎◌, inl, inr, Bool, true, false, ◌&&◌}
+use Rattle.std.proofs.Common.{◌≡◌, refl, sym, ap, subst, ℕ, ◌⊎◌, inl, inr, Bool, true, false, ◌&&◌, alloc_error}
 use Rattle.std.proofs.Common.{Option, Some, None, Ok, Err, List, [], ◌∷◌, is_some, true≢false}
 use Rattle.std.specs.Prelude.{IsSomeAnd}
 use Rattle.disk.specs.declared.block.BlockNo.{BlockNo}
@@ -77,7 +77,7 @@ pub record Cases (old new : WorkerAndCore) (P : Phase → Option Step → Type 0
       (committing_of has.answer)))
   pub lacked : (tx : ℕ) (made : Step) → old.worker.begun.tx ≡ Some tx → old.worker.known.left ≡ []
       → HasLacked tx old made new
-      → P Planning (Some (step.Ended ending.NoMemory))
+      → P Planning (Some (step.Ended (ending.NoMemory alloc_error)))
   pub given : (ok : Bool) (io : Fetch) (made : Step) → old.worker.begun.io ≡ Some io
       → HasGivenBack ok io old made new → P (Read ok) (Some (given_step ok io))
   pub refused : (why : Cause) (job : Job) (tx : ℕ) (made : Step) → old.worker.work.job ≡ Some job
@@ -124,7 +124,7 @@ module _ (old new : WorkerAndCore) (P : Phase → Option Step → Type 0) (cases
 
   module _ (tx : ℕ) (tx_is : old.worker.begun.tx ≡ Some tx) (none : old.worker.known.left ≡ []) where
     lacks : (made : Step) → HasLacked tx old made new → P Planning (Some made)
-    lacks made has = so Planning made (step.Ended ending.NoMemory) has.made_is (cases.lacked tx made tx_is none has)
+    lacks made has = so Planning made (step.Ended (ending.NoMemory alloc_error)) has.made_is (cases.lacked tx made tx_is none has)
 
     module _ (done : Outcome) (next : IsNext old.worker (plan.Done done)) where
       commits : (found : Option Job) (made : Step) → old.worker.work.job ≡ found

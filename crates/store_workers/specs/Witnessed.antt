@@ -27,7 +27,7 @@ abbrev pub placed_as : Committing → Option Seq
 placed_as (committing.Committed place) = Some place
 placed_as committing.Full = None
 placed_as committing.Foreign = None
-placed_as committing.NoMemory = None
+placed_as (committing.NoMemory error) = None
 placed_as committing.Broken = None
 placed_as committing.Spent = None
 

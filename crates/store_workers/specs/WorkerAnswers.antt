@@ -43,7 +43,7 @@ want_answer (want.Busy back) = lock_answer.Busy
 want_answer (want.Fetch back io) = lock_answer.Fetch
 want_answer (want.Loading back) = lock_answer.Loading
 want_answer (want.Outside back) = lock_answer.Outside
-want_answer (want.NoMemory back error) = lock_answer.NoMemory
+want_answer (want.NoMemory back error) = lock_answer.NoMemory error
 
 -- who is kept off waits, where it has taken nothing that bars the wait, and else begins again
 abbrev pub phase_off : LockRequest → Knowing → Phase
@@ -58,7 +58,7 @@ phase_wanted addr mode (want.Busy back) knowing = phase_off (lock_request.Object
 phase_wanted addr mode (want.Fetch back io) knowing = Reading
 phase_wanted addr mode (want.Loading back) knowing = phase_off (lock_request.Object addr mode) knowing
 phase_wanted addr mode (want.Outside back) knowing = Refused cause.Io
-phase_wanted addr mode (want.NoMemory back error) knowing = Refused cause.NoMemory
+phase_wanted addr mode (want.NoMemory back error) knowing = Refused (cause.NoMemory error)
 
 -- what is taken then
 abbrev pub known_wanted : Addr → Mode → Want → Knowing → Knowing
@@ -107,14 +107,14 @@ claim_answer (claim.Held back) = lock_answer.Held
 claim_answer (claim.Busy back) = lock_answer.Busy
 claim_answer (claim.Loading back) = lock_answer.Loading
 claim_answer (claim.Outside back) = lock_answer.Outside
-claim_answer (claim.NoMemory back error) = lock_answer.NoMemory
+claim_answer (claim.NoMemory back error) = lock_answer.NoMemory error
 
 abbrev pub phase_claimed : BlockNo → Claim → Knowing → Phase
 phase_claimed block (claim.Held back) knowing = Planning
 phase_claimed block (claim.Busy back) knowing = phase_off (lock_request.Claim block) knowing
 phase_claimed block (claim.Loading back) knowing = phase_off (lock_request.Claim block) knowing
 phase_claimed block (claim.Outside back) knowing = Refused cause.Io
-phase_claimed block (claim.NoMemory back error) knowing = Refused cause.NoMemory
+phase_claimed block (claim.NoMemory back error) knowing = Refused (cause.NoMemory error)
 
 abbrev pub known_claimed : BlockNo → Claim → Knowing → Knowing
 known_claimed block (claim.Held back) knowing = with_lock_request (lock_request.Claim block) knowing
@@ -164,7 +164,7 @@ abbrev pub committing_of : {C : Type 0} → Commit C → Committing
 committing_of (commit.Committed receipt) = committing.Committed receipt.place
 committing_of (commit.Full back change) = committing.Full
 committing_of (commit.Foreign back change) = committing.Foreign
-committing_of (commit.NoMemory back change error) = committing.NoMemory
+committing_of (commit.NoMemory back change error) = committing.NoMemory error
 committing_of (commit.Broken back change) = committing.Broken
 committing_of (commit.Spent back change) = committing.Spent
 
@@ -197,6 +197,6 @@ after_commit job reply (commit.Committed receipt) state = committed job reply re
 after_commit job reply (commit.Full back change) state = with_tx back Planning state
 after_commit job reply (commit.Foreign back change) state =
     record (with_tx back Again state) { known = without_off state.known }
-after_commit job reply (commit.NoMemory back change error) state = with_tx back (Refused cause.NoMemory) state
+after_commit job reply (commit.NoMemory back change error) state = with_tx back (Refused (cause.NoMemory error)) state
 after_commit job reply (commit.Broken back change) state = with_tx back (Refused cause.Io) state
 after_commit job reply (commit.Spent back change) state = with_tx back (Refused cause.Spent) state

@@ -1,6 +1,6 @@
 -- The step by which a worker goes on, by its phase: which step, and what it leaves of the worker and of the
 -- core.
-use Rattle.std.specs.Prelude.{◌≡◌, ◌⊎◌, ◌↔◌, ℕ, ◌+◌, ◌^◌, ◌<◌, ◌≤◌, Bool, true, false, if◌then◌else◌, IsTrue}
+use Rattle.std.specs.Prelude.{◌≡◌, ◌⊎◌, ◌↔◌, ℕ, ◌+◌, ◌^◌, ◌<◌, ◌≤◌, Bool, true, false, if◌then◌else◌, IsTrue, alloc_error}
 use Rattle.std.specs.Prelude.{Option, Some, None, Ok, Err, List, [], ◌∷◌, IsSomeAnd}
 use Rattle.disk.specs.Crash.{Image}
 use Rattle.disk.specs.declared.block.BlockNo.{BlockNo}
@@ -171,9 +171,9 @@ pub record HasAborted (tx : ℕ) (old new : CoreState) : Type 0 where
 
 -- memory was refused, which is counted, and so the transaction is ended
 pub record HasLacked (tx : ℕ) (old : WorkerAndCore) (made : Step) (new : WorkerAndCore) : Type 0 where
-  pub made_is : made ≡ step.Ended ending.NoMemory
+  pub made_is : made ≡ step.Ended (ending.NoMemory alloc_error)
   pub core : HasAborted tx (with_refused old.core) new.core
-  pub worker : new.worker ≡ with_answer verdict.NoMemory None
+  pub worker : new.worker ≡ with_answer (verdict.NoMemory alloc_error) None
       (record (with_snap new.worker old.worker) { begun = none_begun })
 
 -- a finished plan is committed, or memory was refused before

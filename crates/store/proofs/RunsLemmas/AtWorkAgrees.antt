@@ -1,6 +1,6 @@
 -- What is told after a worker's step is what the store then has, and only a commit moves the log.
 use Rattle.disk.specs.declared.block.BlockNo.{BlockNo}
-use Rattle.std.proofs.Common.{List, ◌≡◌, ◌∙◌, refl, sym, ap, true≢false, ℕ, ◌+◌, ◌≤◌, Bool, true, false, Option}
+use Rattle.std.proofs.Common.{List, ◌≡◌, ◌∙◌, refl, sym, ap, true≢false, ℕ, ◌+◌, ◌≤◌, Bool, true, false, Option, alloc_error}
 use Rattle.std.proofs.Common.{Some, None}
 use Rattle.std.proofs.Common.{Ok, Err, length}
 use Rattle.objects.specs.declared.addr.Addr.{Addr}
@@ -167,7 +167,7 @@ module _ (o : Setting) (run_state : RunState) (number : ℕ) (store : StoreState
         is_preserved (Some (step.Commit (blocks_of done.written) committing.Foreign))
         refl refl (same_core store.core new.core is.0.core)
     committed_agrees tx done (commit.NoMemory back change error) is =
-        is_preserved (Some (step.Commit (blocks_of done.written) committing.NoMemory))
+        is_preserved (Some (step.Commit (blocks_of done.written) (committing.NoMemory alloc_error)))
         refl refl (lacking store.core new.core is.0.core)
     committed_agrees tx done (commit.Broken back change) is =
         is_preserved (Some (step.Commit (blocks_of done.written) committing.Broken))
@@ -199,7 +199,7 @@ module _ (o : Setting) (run_state : RunState) (number : ℕ) (store : StoreState
           is_preserved (Some (step.Claimed block (claim_answer has.answer))) refl refl
           (claimed store.core new.core tx has.core.0 has.answer has.core.2);
       committed = λ job tx done made tx_is next none_left job_is has. committed_agrees tx done has.answer has.core;
-      lacked = λ tx made tx_is none_left has. is_preserved (Some (step.Ended ending.NoMemory)) refl refl
+      lacked = λ tx made tx_is none_left has. is_preserved (Some (step.Ended (ending.NoMemory alloc_error))) refl refl
           (lacked tx store.core new.core has.core);
       given = given_agrees;
       refused = λ why job tx made job_is tx_is has. is_preserved (Some (step.Ended ending.Refused)) refl refl

@@ -1,5 +1,5 @@
 -- Each step of a worker is one that may be made.
-use Rattle.std.proofs.Common.{◌≡◌, ◌≢◌, ◌∙◌, ◌↔◌, refl, sym, ap, subst, true≢false, ℕ, ◌+◌, ◌^◌, ◌≤◌, arith, Bool}
+use Rattle.std.proofs.Common.{◌≡◌, ◌≢◌, ◌∙◌, ◌↔◌, refl, sym, ap, subst, true≢false, ℕ, ◌+◌, ◌^◌, ◌≤◌, arith, Bool, alloc_error}
 use Rattle.std.proofs.Common.{true, false, ◌&&◌, ◌||◌, nat_eq, nat_le, IsTrue, Option, Some, None, List, [], ◌∷◌}
 use Rattle.std.proofs.Common.{◌<◌, ◌⊎◌, inl, inr, length, map, All, IfSome}
 use Rattle.std.proofs.Common.{Ok, Err}
@@ -425,15 +425,15 @@ module _ (o : Setting) (run_state : RunState) (number : ℕ) (base : Image) (sto
 
   lacked_so : (tx : ℕ) (made : Step) → worker.begun.tx ≡ Some tx → worker.known.left ≡ []
       → HasLacked tx old made new
-      → May Planning (Some (step.Ended ending.NoMemory))
+      → May Planning (Some (step.Ended (ending.NoMemory alloc_error)))
   lacked_so tx made tx_is none has at plans loads stands caused = by worker.work.job plans
     where
       by : (job : Option Job) → IsSomeAnd job (λ job. IsSomeAnd worker.begun.tx (λ t.
           IsSomeAnd (seen_in worker.work.planner) (λ seen. HasOfCall t store.core seen)))
-          → MayFrom (at_stage job (how.Planning all_begun)) (Some (step.Ended ending.NoMemory))
+          → MayFrom (at_stage job (how.Planning all_begun)) (Some (step.Ended (ending.NoMemory alloc_error)))
       by None plans = absurd plans
       by (Some job) plans = subst (λ (left : List LockRequest). IsStepRetakingFirst left o run_state number all_begun
-          (step.Ended ending.NoMemory)) (sym none) tt
+          (step.Ended (ending.NoMemory alloc_error))) (sym none) tt
 
   -- its read is due, or made
   reading_so : RunsIn boot worker × IsFetchOf worker
@@ -528,17 +528,17 @@ module _ (run_state : RunState) (number : ℕ) (idle : (other : ℕ) → other �
   not_caused (Some (step.Wanted addr mode lock_answer.Fetch)) off =
       (left_free (schedule.range_request_at addr mode), λ other differs. ap (has_loaded addr.block) (idle other differs))
   not_caused (Some (step.Wanted addr mode lock_answer.Outside)) off = tt
-  not_caused (Some (step.Wanted addr mode lock_answer.NoMemory)) off = left_free (schedule.range_request_at addr mode)
+  not_caused (Some (step.Wanted addr mode (lock_answer.NoMemory error))) off = left_free (schedule.range_request_at addr mode)
   not_caused (Some (step.Claimed block lock_answer.Busy)) off = absurd (true≢false off)
   not_caused (Some (step.Claimed block lock_answer.Loading)) off = absurd (true≢false off)
   not_caused (Some (step.Claimed block lock_answer.Held)) off = left_free (schedule.whole_block_request block)
   not_caused (Some (step.Claimed block lock_answer.Fetch)) off = tt
   not_caused (Some (step.Claimed block lock_answer.Outside)) off = tt
-  not_caused (Some (step.Claimed block lock_answer.NoMemory)) off = left_free (schedule.whole_block_request block)
+  not_caused (Some (step.Claimed block (lock_answer.NoMemory error))) off = left_free (schedule.whole_block_request block)
   not_caused (Some (step.Commit count committing.Foreign)) off = absurd (true≢false off)
   not_caused (Some (step.Commit count (committing.Committed place))) off = tt
   not_caused (Some (step.Commit count committing.Full)) off = tt
-  not_caused (Some (step.Commit count committing.NoMemory)) off = tt
+  not_caused (Some (step.Commit count (committing.NoMemory error))) off = tt
   not_caused (Some (step.Commit count committing.Broken)) off = tt
   not_caused (Some (step.Commit count committing.Spent)) off = tt
   not_caused None off = tt

@@ -145,7 +145,7 @@ tracing boot number clock progress (Some (step.Commit added (committing.Committe
     with_one added place refl is
 tracing boot number clock progress (Some (step.Commit added committing.Full)) before mid is = with_none refl refl is
 tracing boot number clock progress (Some (step.Commit added committing.Foreign)) before mid is = with_none refl refl is
-tracing boot number clock progress (Some (step.Commit added committing.NoMemory)) before mid is = with_none refl refl is
+tracing boot number clock progress (Some (step.Commit added (committing.NoMemory error))) before mid is = with_none refl refl is
 tracing boot number clock progress (Some (step.Commit added committing.Broken)) before mid is = with_none refl refl is
 tracing boot number clock progress (Some (step.Commit added committing.Spent)) before mid is = with_none refl refl is
 tracing boot number clock progress None before mid is = with_none refl refl is

@@ -94,9 +94,9 @@ abbrev pub IsCaused : RunState → ℕ → Option Step → Type 0
 IsCaused run_state number (Some (step.Wanted addr mode lock_answer.Held)) = IsLeftFree run_state number (range_request_at addr mode)
 IsCaused run_state number (Some (step.Wanted addr mode lock_answer.Fetch)) =
     IsLeftFree run_state number (range_request_at addr mode) × IsSoOfNoOther run_state number (has_loaded addr.block)
-IsCaused run_state number (Some (step.Wanted addr mode lock_answer.NoMemory)) = IsLeftFree run_state number (range_request_at addr mode)
+IsCaused run_state number (Some (step.Wanted addr mode (lock_answer.NoMemory error))) = IsLeftFree run_state number (range_request_at addr mode)
 IsCaused run_state number (Some (step.Claimed block lock_answer.Held)) = IsLeftFree run_state number (whole_block_request block)
-IsCaused run_state number (Some (step.Claimed block lock_answer.NoMemory)) = IsLeftFree run_state number (whole_block_request block)
+IsCaused run_state number (Some (step.Claimed block (lock_answer.NoMemory error))) = IsLeftFree run_state number (whole_block_request block)
 IsCaused run_state number (Some (step.Wanted addr mode lock_answer.Busy)) =
     IsSoOfAnother run_state number (has_taken (range_request_at addr mode))
 IsCaused run_state number (Some (step.Wanted addr mode lock_answer.Loading)) = IsSoOfAnother run_state number (fetches addr.block)

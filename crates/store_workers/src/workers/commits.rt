@@ -88,9 +88,9 @@ impl State {
                 self.come_back(tx, change, Phase::Again);
                 Committing::Foreign
             }
-            Commit::NoMemory(tx, change, _) => {
-                self.come_back(tx, change, Phase::Refused(Cause::NoMemory));
-                Committing::NoMemory
+            Commit::NoMemory(tx, change, error) => {
+                self.come_back(tx, change, Phase::Refused(Cause::NoMemory(error)));
+                Committing::NoMemory(error)
             }
             Commit::Broken(tx, change) => {
                 self.come_back(tx, change, Phase::Refused(Cause::Io));

@@ -168,8 +168,8 @@ impl State {
         ensures stays { (other : ℕ) → (other ≡ tx → ⊥) → PreservesReads core.old core.new other }
     {
         core.abort_for(tx, error);
-        self.give(Verdict::NoMemory, None);
-        Step::Ended(Ending::NoMemory)
+        self.give(Verdict::NoMemory(error), None);
+        Step::Ended(Ending::NoMemory(error))
     }
 
     // Reads an object in the transaction, in a mode.
@@ -234,9 +234,9 @@ impl State {
                 self.go_on(tx, Phase::Refused(Cause::Io));
                 LockAnswer::Outside
             }
-            Want::NoMemory(tx, _) => {
-                self.go_on(tx, Phase::Refused(Cause::NoMemory));
-                LockAnswer::NoMemory
+            Want::NoMemory(tx, error) => {
+                self.go_on(tx, Phase::Refused(Cause::NoMemory(error)));
+                LockAnswer::NoMemory(error)
             }
         }
     }
@@ -333,9 +333,9 @@ impl State {
                 self.go_on(tx, Phase::Refused(Cause::Io));
                 LockAnswer::Outside
             }
-            Claim::NoMemory(tx, _) => {
-                self.go_on(tx, Phase::Refused(Cause::NoMemory));
-                LockAnswer::NoMemory
+            Claim::NoMemory(tx, error) => {
+                self.go_on(tx, Phase::Refused(Cause::NoMemory(error)));
+                LockAnswer::NoMemory(error)
             }
         }
     }
