@@ -1,11 +1,10 @@
 //! What a seat has of its job.
 ghost use Rattle.std.specs.Prelude.{◌≡◌, ◌≤◌, IsSomeAnd, IsTrue};
-ghost use Rattle.pool.specs.Answers.{GivesBy, answer_of, body_of, in_flight_with, given_to, kept, way_by};
+ghost use Rattle.pool.specs.Answers.{GivesBy, answer_of, in_flight_with, given_to, kept, way_by};
 
 use nfs_types::ProgramReply;
 use pool_requests::{Answer, ReplyAddress};
 use procs::{CommitWitness, Done};
-use rpc::Refusal;
 use session_wire::ReplyBody;
 use std::marker::Model;
 use std::sync::ledger::{Ledger, Share};
@@ -38,7 +37,7 @@ pub(crate) enum Way {
     Settled(Seq),
     /// That the call begins no transaction.
     Nothing,
-    /// A refusal.
+    /// A refusal: IO, SERVERFAULT, or that memory was refused.
     Substitute,
 }
 
@@ -166,18 +165,15 @@ fn answer_of<L: Ledger>(
         (Way::Nothing, _, _) => {
             return Answer::of_nothing(reply_address, share);
         }
-        (_, _, verdict) => {
-            return Answer::substitute(reply_address, body_of(verdict), share);
+        (_, _, Verdict::Reply(reply)) => {
+            return Answer::substitute(
+                reply_address,
+                ReplyBody::Done(ProgramReply::Nfs(reply)),
+                share,
+            );
         }
-    }
-}
-
-// What came of a procedure, as the body of a message.
-fn body_of(verdict: Verdict) -> ReplyBody
-    ensures { result ≡ body_of verdict }
-{
-    match verdict {
-        Verdict::Reply(reply) => ReplyBody::Done(ProgramReply::Nfs(reply)),
-        Verdict::NoMemory => ReplyBody::Refused(Refusal::SystemError),
+        (_, _, Verdict::NoMemory(error)) => {
+            return Answer::lacking(reply_address, error, share);
+        }
     }
 }
