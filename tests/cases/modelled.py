@@ -248,7 +248,8 @@ def reply_of(call, found, seen):
 
 class Orders:
     """The orders in which calls may have been done so that each is answered as it was, and the files behind each
-    beginning of one. A call that was handed over behind the answer to another comes behind that one."""
+    beginning of one. A call that was handed over behind the answer to another comes behind that one. A reply that isn't known
+    is None."""
 
     def __init__(self, calls, answered, behind, seen):
         self.calls, self.answered, self.behind, self.seen = calls, answered, behind, seen
@@ -275,9 +276,9 @@ class Orders:
                 later, wanted = done | {xid}, self.answered[xid]
                 for state, (files, _) in self.found[done].items():
                     files = copy.deepcopy(files)
-                    status, told = files.do(call, wanted.handle)
+                    status, told = files.do(call, wanted and wanted.handle)
                     told = [self.seen(it) if isinstance(it, nfs.Attributes) else it for it in told]
-                    if (status, told) == (wanted.status, wanted.told):
+                    if wanted is None or (status, told) == (wanted.status, wanted.told):
                         self.note(later, files, (done, state))
                 if later in self.found:
                     yield later

@@ -127,26 +127,11 @@ impl<D: CrashDisk> Bench<D> {
 // The steps of a transaction.
 impl<D: CrashDisk> Bench<D> {
     // Begins a transaction, once more where it was refused memory.
-    fn begin(&mut self) -> Option<Tx> {
+    pub fn begin(&mut self) -> Option<Tx> {
         match self.core.begin() {
             Err(BeginFault::NoMemory(_)) => self.core.begin().ok(),
             begun => begun.ok(),
         }
-    }
-
-    // Begins three of them.
-    pub fn begin_three(&mut self) -> Option<(Tx, Tx, Tx)> {
-        let one = self.begin()?;
-        let Some(two) = self.begin() else {
-            self.core.abort(one);
-            return None;
-        };
-        let Some(three) = self.begin() else {
-            self.core.abort(one);
-            self.core.abort(two);
-            return None;
-        };
-        Some((one, two, three))
     }
 
     // Takes these steps, and tells whether they come to this, as far as it is told.

@@ -8,7 +8,6 @@ use base::{CHANGED_BLOCKS, FIRST_HOME_BLOCK};
 use disk::BlockNo;
 use objects::{Addr, SharedBytes};
 use std::alloc::{AllocError, Global};
-use std::test::Fail;
 use txn::{Change, Object};
 
 // The blocks and inodes of the image here: more blocks than twice as many as stay in memory that nobody needs.
@@ -62,14 +61,12 @@ impl Change for Toy {
     fn is_planned(&self) {}
 }
 
-// A change that read these objects, each with its byte, and writes these so.
-pub fn change_of(alloc: Global, read: &[(At, u8)], written: &[(At, u8)]) -> Result<Toy, Fail> {
-    let read = objects(alloc, read)?;
-    let written = objects(alloc, written)?;
-    match toy_of(read, written) {
-        Some(toy) => Ok(toy),
-        None => Err("too many objects")?,
-    }
+// A change that read these objects, each with its byte, and writes these so. None where memory is refused, or where it would
+// write more than a change may.
+pub fn change_of(alloc: Global, read: &[(At, u8)], written: &[(At, u8)]) -> Option<Toy> {
+    let read = objects(alloc, read).ok()?;
+    let written = objects(alloc, written).ok()?;
+    toy_of(read, written)
 }
 
 // A change of these objects, where it writes no more than a change may.

@@ -2,9 +2,11 @@
 //! memory that nobody needs as the limit says, and fewer than twice as many.
 
 use crate::tests::bench::{Bench, Ended, Seen, Step};
-use crate::tests::fake_changes::{At, change_of};
-use crate::tests::whole::{claims, writes};
+use crate::tests::fake_changes::{At, Toy, change_of};
+use crate::tests::script::Row;
+use crate::tests::whole::writes;
 use base::CLEAN_BLOCKS;
+use disk::CrashDisk;
 use std::alloc::{AllocError, Global};
 use std::test::Fail;
 use txn::Change;
@@ -24,15 +26,6 @@ fn reads(alloc: Global, count: u32) -> Result<Vec<Step>, AllocError> {
     Ok(steps)
 }
 
-#[test]
-fn many_blocks_are_held_at_once(rt: HostRuntime) -> Result<(), Fail> {
-    let mut bench = Bench::new(rt.alloc(), 0, &[])?;
-    let steps = reads(rt.alloc(), 200)?;
-    let zeros = vec![in rt.alloc(); Seen::Bytes(0); 200]?;
-    assert!(rt; bench.sees(1, steps.as_slice(), zeros.as_slice()));
-    Ok(())
-}
-
 // A transaction reads so many whole blocks and ends, so that they are unpinned in their order. Then another wants
 // these.
 fn sees_later(rt: &HostRuntime, count: u32, later: &[Step], wanted: &[Seen]) -> Result<bool, Fail> {
@@ -40,6 +33,12 @@ fn sees_later(rt: &HostRuntime, count: u32, later: &[Step], wanted: &[Seen]) -> 
     let steps = reads(rt.alloc(), count)?;
     let zeros = vec![in rt.alloc(); Seen::Bytes(0); count as usize]?;
     Ok(bench.sees(1, steps.as_slice(), zeros.as_slice()) && bench.sees(2, later, wanted))
+}
+
+#[test]
+fn many_blocks_are_held_at_once(rt: HostRuntime) -> Result<(), Fail> {
+    assert!(rt; sees_later(&rt, 200, &[], &[])?);
+    Ok(())
 }
 
 // With the last of twice the limit those before the second half go, and 8 come after that.
@@ -67,24 +66,26 @@ fn fewer_than_twice_the_limit_stay(rt: HostRuntime) -> Result<(), Fail> {
 #[test]
 fn a_change_of_128_blocks_is_committed(rt: HostRuntime) -> Result<(), Fail> {
     let mut bench = Bench::new(rt.alloc(), 0, &[])?;
-    let toy = writes(rt.alloc(), 0, 128)?;
-    let steps = claims(rt.alloc(), 0, 128)?;
-    assert_eq!(rt; bench.core.added_blocks(toy.written()), 128);
-    assert_eq!(rt; bench.commit(steps.as_slice(), toy), Ended::Place(Seq(1)));
-    assert_eq!(rt; bench.core.tail(), 128);
-    assert_eq!(rt; bench.core.kept(), 1);
-    assert!(rt; !bench.core.is_settled());
+    let outcome = [
+        Row::WritesMany(0, 128, Ended::Place(Seq(1))),
+        Row::Has(128, 1),
+        Row::IsSettled(1, false),
+    ];
+    assert_eq!(rt; added_blocks(&bench, writes(rt.alloc(), 0, 128)), Some(128));
+    assert_eq!(rt; bench.first_wrong(&outcome), None);
     Ok(())
 }
 
 #[test]
 fn a_block_of_two_objects_is_added_once(rt: HostRuntime) -> Result<(), Fail> {
     let bench = Bench::new(rt.alloc(), 0, &[])?;
-    let toy = change_of(
-        rt.alloc(),
-        &[],
-        &[(At::Eight(0, 0), 1), (At::Eight(0, 8), 2)],
-    )?;
-    assert_eq!(rt; bench.core.added_blocks(toy.written()), 1);
+    let two = [(At::Eight(0, 0), 1), (At::Eight(0, 8), 2)];
+    let toy = change_of(rt.alloc(), &[], &two);
+    assert_eq!(rt; added_blocks(&bench, toy), Some(1));
     Ok(())
+}
+
+// How many blocks a change adds to the tail, where there is one.
+fn added_blocks<D: CrashDisk>(bench: &Bench<D>, toy: Option<Toy>) -> Option<usize> {
+    Some(bench.core.added_blocks(toy?.written()))
 }

@@ -4,7 +4,6 @@ use crate::tests::bench::{Bench, Ended, Step};
 use crate::tests::fake_changes::{At, Toy, change_of, home};
 use disk::CrashDisk;
 use std::alloc::{AllocError, Global};
-use std::test::Fail;
 
 // Steps that claim so many blocks, from a home block on.
 pub fn claims(alloc: Global, first: u32, count: u8) -> Result<Vec<Step>, AllocError> {
@@ -15,13 +14,18 @@ pub fn claims(alloc: Global, first: u32, count: u8) -> Result<Vec<Step>, AllocEr
     Ok(steps)
 }
 
-// A change that writes so many whole blocks, from a home block on.
-pub fn writes(alloc: Global, first: u32, count: u8) -> Result<Toy, Fail> {
-    let mut test_bytes = Vec::new(alloc);
+// A change that writes so many whole blocks, from a home block on, where memory is had.
+pub fn writes(alloc: Global, first: u32, count: u8) -> Option<Toy> {
+    let written = whole(alloc, first, count).ok()?;
+    change_of(alloc, &[], written.as_slice())
+}
+
+fn whole(alloc: Global, first: u32, count: u8) -> Result<Vec<(At, u8)>, AllocError> {
+    let mut written = Vec::new(alloc);
     for index in 0..u32::from(count) {
-        test_bytes.push((At::Whole(first.saturating_add(index)), 3))?;
+        written.push((At::Whole(first.saturating_add(index)), 3))?;
     }
-    change_of(alloc, &[], test_bytes.as_slice())
+    Ok(written)
 }
 
 // What such a change of blocks that it has claimed comes to.
@@ -29,8 +33,8 @@ pub fn claim_and_write_many<D: CrashDisk>(
     bench: &mut Bench<D>,
     first: u32,
     count: u8,
-) -> Result<Ended, Fail> {
+) -> Option<Ended> {
     let toy = writes(bench.alloc, first, count)?;
-    let steps = claims(bench.alloc, first, count)?;
-    Ok(bench.commit(steps.as_slice(), toy))
+    let steps = claims(bench.alloc, first, count).ok()?;
+    Some(bench.commit(steps.as_slice(), toy))
 }
