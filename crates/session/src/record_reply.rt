@@ -16,7 +16,7 @@ use bytes::Bytes;
 use disk::CrashDisk;
 use nfs_types::{Credential, Moment, MountCall, ProgramCall};
 use rpc::Refusal;
-use session_wire::{Judged, Lacking, RpcReply, judge, mount_reply};
+use session_wire::{Judged, RpcReply, judge, mount_reply};
 use std::alloc::{AllocError, Global};
 use std::io::Write;
 use store::{Store, Verdict, procedure};
@@ -41,7 +41,7 @@ pub fn serve_record<D: CrashDisk, W: Write>(
 {
     are_bytes(message.as_slice());
     match judge(alloc, message) {
-        Err(Lacking { xid, error }) => lack(alloc, store, xid, error, writer),
+        Err(lacking) => lack(alloc, store, lacking.xid, lacking.error, writer),
         Ok(Judged::Closed) => Err(SessionFault::Record),
         Ok(Judged::Refused { xid, refusal }) => {
             put(alloc, writer, xid, RpcReply::Refused(refusal))
