@@ -1,10 +1,12 @@
 //! What everything stands on: the numbers of the server that are choices (limits, sizes and places of the format),
-//! which no code and no proof repeats, and blocks and bytes that are shared by pointer.
+//! which no code and no proof repeats, blocks and bytes that are shared by pointer, and the parts of a failed allocation.
 #![tactic(auto)]
 
 mod buffers;
+mod refused;
 
 pub use buffers::{Block, CowBlock, Pieces, SharedBlock, SharedOctets};
+pub use refused::apart;
 
 /// The bytes of a block.
 pub const BLOCK_BYTES: usize = 4096;

@@ -23,7 +23,7 @@ pub may_suspend : (snap : Snap) (why : Suspend) → IsNew snap why → IsAskedOb
 may_suspend snap (suspend.Need addr mode) new asked = (new, asked)
 may_suspend snap (suspend.Claim block) new asked = absurd asked
 may_suspend snap suspend.Io new asked = tt
-may_suspend snap suspend.NoMemory new asked = tt
+may_suspend snap (suspend.NoMemory error) new asked = tt
 
 -- the piece of the bitmap that has the bit of a block
 pub has_bit_of : (g : Geometry) (number : ℕ) (addr : Addr) → number < g.blocks

@@ -9,4 +9,4 @@ abbrev pub IsAskedObject : Geometry → Suspend → Type 0
 IsAskedObject g (suspend.Need addr mode) = IsObject g addr
 IsAskedObject g (suspend.Claim block) = ⊥
 IsAskedObject g suspend.Io = Unit {0}
-IsAskedObject g suspend.NoMemory = Unit {0}
+IsAskedObject g (suspend.NoMemory error) = Unit {0}

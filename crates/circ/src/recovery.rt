@@ -1,5 +1,5 @@
 //! What an opening finds in the log.
-ghost use Rattle.std.specs.Prelude.{◌≡◌, ◌≤◌, ◌<◌, ◌+◌, ◌*◌, ◌%◌, ◌^◌, ◌-◌, ◌⊎◌, ℕ, length, IfOk, OnOk, OnErr};
+ghost use Rattle.std.specs.Prelude.{◌≡◌, ◌≤◌, ◌<◌, ◌+◌, ◌*◌, ◌%◌, ◌^◌, ◌-◌, ◌⊎◌, ℕ, length, IfOk, OnOk, OnErr, alloc_error};
 ghost use Rattle.std.specs.Prelude.{IsErrOf, All, true, false};
 ghost use Rattle.base.specs.declared.TheConstants.{FIRST_HOME_BLOCK, LOG_SLOTS, LOG_HEADER_BLOCK};
 ghost use Rattle.circ.specs.Log.EightBytes.{number_at};
@@ -61,7 +61,7 @@ fn read_ends<D: CrashDisk>(alloc: Global, disk: &mut D) -> Result<(Block, u64), 
         → IfOk result (λ ends. ends.0 ≡ image_of (D.device disk.old) LOG_HEADER_BLOCK) }
     ensures start { D.keeps_model disk.new → IsCertain (D.device disk.old)
         → IfOk result (λ ends. ends.1 ≡ start_in (image_of (D.device disk.old))) }
-    ensures other { OnErr result (IsErrOf result LogFault.Device ⊎ IsErrOf result LogFault.NoMemory) }
+    ensures other { OnErr result (IsErrOf result LogFault.Device ⊎ IsErrOf result (LogFault.NoMemory alloc_error)) }
 {
     let mut header = zeros(alloc)?;
     read_block(disk, BlockNo(LOG_HEADER_BLOCK), &mut header)?;
@@ -103,7 +103,7 @@ fn read_start<D: CrashDisk>(alloc: Global, disk: &mut D) -> Result<u64, LogFault
     ensures model { D.keeps_model disk.new → D.keeps_model disk.old }
     ensures start { D.keeps_model disk.new → IsCertain (D.device disk.old)
         → IfOk result (λ start. start ≡ start_in (image_of (D.device disk.old))) }
-    ensures other { OnErr result (IsErrOf result LogFault.Device ⊎ IsErrOf result LogFault.NoMemory) }
+    ensures other { OnErr result (IsErrOf result LogFault.Device ⊎ IsErrOf result (LogFault.NoMemory alloc_error)) }
 {
     let mut block = zeros(alloc)?;
     read_block(disk, BlockNo(START_BLOCK), &mut block)?;
@@ -112,11 +112,11 @@ fn read_start<D: CrashDisk>(alloc: Global, disk: &mut D) -> Result<u64, LogFault
 
 // A block of zeros.
 fn zeros(alloc: Global) -> Result<Block, LogFault>
-    ensures { OnErr result (IsErrOf result LogFault.NoMemory) }
+    ensures { OnErr result (IsErrOf result (LogFault.NoMemory alloc_error)) }
 {
     match Block::zeros(alloc) {
         Ok(block) => Ok(block),
-        Err(_) => Err(LogFault::NoMemory),
+        Err(error) => Err(LogFault::NoMemory(error)),
     }
 }
 
@@ -175,11 +175,11 @@ fn read_slots<D: CrashDisk>(
     ensures positions { D.keeps_model disk.new → IsCertain (D.device disk.old)
         → IfOk result (λ logged. logged.items
         ≡ positions header.now (image_of (D.device disk.old)) start count) }
-    ensures other { OnErr result (IsErrOf result LogFault.Device ⊎ IsErrOf result LogFault.NoMemory) }
+    ensures other { OnErr result (IsErrOf result LogFault.Device ⊎ IsErrOf result (LogFault.NoMemory alloc_error)) }
 {
     let mut logged = match Vec::with_capacity(alloc, count) {
         Ok(logged) => logged,
-        Err(_) => return Err(LogFault::NoMemory),
+        Err(error) => return Err(LogFault::NoMemory(error)),
     };
     for i in 0..count {
         let slot = (start + i as u64) % LOG_SLOTS;

@@ -42,20 +42,20 @@ counts_open T old new opening.Version counts = counts
 counts_open T old new opening.Range counts = counts
 counts_open T old new opening.Log counts = counts
 counts_open T old new opening.Device counts = counts
-counts_open T old new opening.NoMemory counts = counts
+counts_open T old new (opening.NoMemory error) counts = counts
 
 pub counts_log : (T U : Type 0) (old new : Device) (cause : LogFault) → CountsFault {T = U} old new (Err cause)
     → CountsCheck {T = T} old new (Err (of_log cause))
 counts_log T U old new log.Range counts = counts
 counts_log T U old new log.Address counts = counts
 counts_log T U old new log.Device counts = omega (arith, counts)
-counts_log T U old new log.NoMemory counts = counts
+counts_log T U old new (log.NoMemory error) counts = counts
 
 pub counts_part : (T U : Type 0) (old new : Device) (cause : PartFault) → CountsPart {T = U} old new (Err cause)
     → CountsCheck {T = T} old new (Err (of_part cause))
 counts_part T U old new part.Range counts = counts
 counts_part T U old new part.Device counts = omega (arith, counts)
-counts_part T U old new part.NoMemory counts = counts
+counts_part T U old new (part.NoMemory error) counts = counts
 
 pub counts_then : {T : Type 0} (old middle new : Device) (result : Result T CheckFault)
     → middle.failures ≡ old.failures → CountsCheck middle new result → CountsCheck old new result
@@ -65,7 +65,7 @@ counts_then old middle new (Err fault.Version) same counts = counts ∙ same
 counts_then old middle new (Err fault.Range) same counts = counts ∙ same
 counts_then old middle new (Err fault.Log) same counts = counts ∙ same
 counts_then old middle new (Err fault.Device) same counts = omega (arith, same, counts)
-counts_then old middle new (Err fault.NoMemory) same counts = counts ∙ same
+counts_then old middle new (Err (fault.NoMemory error)) same counts = counts ∙ same
 counts_then old middle new (Err fault.Shared) same counts = counts ∙ same
 counts_then old middle new (Err fault.Bitmap) same counts = counts ∙ same
 counts_then old middle new (Err (fault.Tree why)) same counts = counts ∙ same
@@ -78,7 +78,7 @@ counts_as T U old new fault.Version counts = counts
 counts_as T U old new fault.Range counts = counts
 counts_as T U old new fault.Log counts = counts
 counts_as T U old new fault.Device counts = counts
-counts_as T U old new fault.NoMemory counts = counts
+counts_as T U old new (fault.NoMemory error) counts = counts
 counts_as T U old new fault.Shared counts = counts
 counts_as T U old new fault.Bitmap counts = counts
 counts_as T U old new (fault.Tree why) counts = counts
@@ -92,7 +92,7 @@ counts_none old new (Err fault.Version) same not = same
 counts_none old new (Err fault.Range) same not = same
 counts_none old new (Err fault.Log) same not = same
 counts_none old new (Err fault.Device) same not = absurd (not refl)
-counts_none old new (Err fault.NoMemory) same not = same
+counts_none old new (Err (fault.NoMemory error)) same not = same
 counts_none old new (Err fault.Shared) same not = same
 counts_none old new (Err fault.Bitmap) same not = same
 counts_none old new (Err (fault.Tree why)) same not = same
@@ -115,13 +115,13 @@ module _ (size : ℕ) (image : Image) where
       let same : super.boot ≡ boot = is.boot ∙ sym good.is_super.boot ∙ good.boot_is in omega (arith, last, same)
   shown opening.Log other = λ tree boot good. absurd (other.1 (good.range, good.homes))
   shown opening.Device other = tt
-  shown opening.NoMemory other = tt
+  shown (opening.NoMemory error) other = tt
 
   pub no_log : (cause : LogFault) → IsLog size image (Err cause) → IsRefusal (IsNotGood size image) (of_log cause)
   no_log log.Range not = λ tree boot good. absurd (not good.range)
   no_log log.Address not = λ tree boot good. absurd (not.1 good.homes)
   no_log log.Device not = tt
-  no_log log.NoMemory not = tt
+  no_log (log.NoMemory error) not = tt
 
   pub as_checked : (cause : CheckFault) → IsRefusal (IsNotGood size image) cause → IsChecked size image (Err cause)
   as_checked fault.Magic said = said
@@ -129,7 +129,7 @@ module _ (size : ℕ) (image : Image) where
   as_checked fault.Range said = said
   as_checked fault.Log said = said
   as_checked fault.Device said = said
-  as_checked fault.NoMemory said = said
+  as_checked (fault.NoMemory error) said = said
   as_checked fault.Shared said = said
   as_checked fault.Bitmap said = said
   as_checked (fault.Tree why) said = said
@@ -173,7 +173,7 @@ module _ (size : ℕ) (image : Image) where
     checked_by (Err fault.Range) is = not_good is
     checked_by (Err fault.Log) is = not_good is
     checked_by (Err fault.Device) is = tt
-    checked_by (Err fault.NoMemory) is = tt
+    checked_by (Err (fault.NoMemory error)) is = tt
     checked_by (Err fault.Shared) is = not_good is
     checked_by (Err fault.Bitmap) is = not_good is
     checked_by (Err (fault.Tree why)) is = not_good is
@@ -195,7 +195,7 @@ refused_first is_preserved opening.Range before later refused preserves clean =
 refused_first is_preserved opening.Log before later refused preserves clean =
     shown before.size (image_of before) opening.Log (refused.1 preserves clean)
 refused_first is_preserved opening.Device before later refused preserves clean = tt
-refused_first is_preserved opening.NoMemory before later refused preserves clean = tt
+refused_first is_preserved (opening.NoMemory error) before later refused preserves clean = tt
 
 -- ---- the search
 
@@ -206,7 +206,7 @@ said_then fault.Version so is = so is
 said_then fault.Range so is = so is
 said_then fault.Log so is = so is
 said_then fault.Device so is = tt
-said_then fault.NoMemory so is = tt
+said_then (fault.NoMemory error) so is = tt
 said_then fault.Shared so is = so is
 said_then fault.Bitmap so is = so is
 said_then (fault.Tree why) so is = so is
@@ -218,7 +218,7 @@ module _ (g : Geometry) (boot : ℕ) (image : Image) where
   as_searched fault.Range said = said
   as_searched fault.Log said = said
   as_searched fault.Device said = said
-  as_searched fault.NoMemory said = said
+  as_searched (fault.NoMemory error) said = said
   as_searched fault.Shared said = said
   as_searched fault.Bitmap said = said
   as_searched (fault.Tree why) said = said
@@ -227,7 +227,7 @@ module _ (g : Geometry) (boot : ℕ) (image : Image) where
       → IsSearched g boot image (Err (of_part cause))
   of_range part.Range so = so refl
   of_range part.Device so = tt
-  of_range part.NoMemory so = tt
+  of_range (part.NoMemory error) so = tt
 
 -- ---- reads
 

@@ -29,7 +29,7 @@ pub record IsGoodWith (size : ℕ) (image : Image) (counts : Counts) : Type 0 wh
 abbrev pub IsChecked : ℕ → Image → Result Counts CheckFault → Type 0
 IsChecked size image (Ok counts) = IsGoodWith size image counts
 IsChecked size image (Err fault.Device) = Unit {0}
-IsChecked size image (Err fault.NoMemory) = Unit {0}
+IsChecked size image (Err (fault.NoMemory error)) = Unit {0}
 IsChecked size image (Err cause) = IsNotGood size image
 
 -- a failure is counted just where the answer is that the device failed

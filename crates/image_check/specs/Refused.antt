@@ -11,7 +11,7 @@ use Rattle.image_check.specs.declared.fault.CheckFault.TheVariants as fault
 -- a refusal says this, but where the device failed or memory was refused
 abbrev pub IsRefusal : Type 0 → CheckFault → Type 0
 IsRefusal said fault.Device = Unit {0}
-IsRefusal said fault.NoMemory = Unit {0}
+IsRefusal said (fault.NoMemory error) = Unit {0}
 IsRefusal said cause = said
 
 -- what refuses an opening refuses a check
@@ -21,15 +21,15 @@ of_open opening.Version = fault.Version
 of_open opening.Range = fault.Range
 of_open opening.Log = fault.Log
 of_open opening.Device = fault.Device
-of_open opening.NoMemory = fault.NoMemory
+of_open (opening.NoMemory error) = fault.NoMemory error
 
 abbrev pub of_log : LogFault → CheckFault
 of_log log.Range = fault.Log
 of_log log.Address = fault.Log
 of_log log.Device = fault.Device
-of_log log.NoMemory = fault.NoMemory
+of_log (log.NoMemory error) = fault.NoMemory error
 
 abbrev pub of_part : PartFault → CheckFault
 of_part part.Range = fault.Range
 of_part part.Device = fault.Device
-of_part part.NoMemory = fault.NoMemory
+of_part (part.NoMemory error) = fault.NoMemory error

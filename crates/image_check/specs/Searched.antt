@@ -45,7 +45,7 @@ pub record IsTreeWith (g : Geometry) (boot : ℕ) (image : Image) (counts : Coun
 abbrev pub IsSearched : Geometry → ℕ → Image → Result Counts CheckFault → Type 0
 IsSearched g boot image (Ok counts) = IsTreeWith g boot image counts
 IsSearched g boot image (Err fault.Device) = Unit {0}
-IsSearched g boot image (Err fault.NoMemory) = Unit {0}
+IsSearched g boot image (Err (fault.NoMemory error)) = Unit {0}
 IsSearched g boot image (Err cause) = IsNoTree g boot image
 
 -- these are the blocks of an image, and its table

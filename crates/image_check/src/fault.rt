@@ -1,4 +1,6 @@
 //! Why an image isn't good.
+
+use std::alloc::AllocError;
 use thiserror::Error;
 
 /// A file whose links aren't the names that it has.
@@ -29,9 +31,9 @@ pub enum CheckFault {
     /// A call of the device failed.
     #[error("Device")]
     Device,
-    /// An allocation failed.
+    /// An allocation failed: it bears the refusal.
     #[error("NoMemory")]
-    NoMemory,
+    NoMemory(AllocError),
     /// A block has two owners.
     #[error("Shared")]
     Shared,

@@ -28,8 +28,9 @@ pub(crate) fn read_first<D: CrashDisk>(alloc: Global, disk: &mut D) -> Result<Su
     ensures refused { D.keeps_model disk.new → IsCertain (D.device disk.old) → IfErr result
         (IsRefusal (IsNotGood (D.device disk.old).size (image_of (D.device disk.old)))) }
 {
-    let Ok(mut block) = Block::zeros(alloc) else {
-        return Err(CheckFault::NoMemory);
+    let mut block = match Block::zeros(alloc) {
+        Ok(block) => block,
+        Err(error) => return Err(CheckFault::NoMemory(error)),
     };
     match read_super(disk, &mut block) {
         Ok(found) => Ok(found),
@@ -68,7 +69,7 @@ fn of_open(cause: OpenFault) -> CheckFault
         OpenFault::Range => CheckFault::Range,
         OpenFault::Log => CheckFault::Log,
         OpenFault::Device => CheckFault::Device,
-        OpenFault::NoMemory => CheckFault::NoMemory,
+        OpenFault::NoMemory(error) => CheckFault::NoMemory(error),
     }
 }
 
@@ -79,6 +80,6 @@ fn of_log(cause: LogFault) -> CheckFault
     match cause {
         LogFault::Range | LogFault::Address => CheckFault::Log,
         LogFault::Device => CheckFault::Device,
-        LogFault::NoMemory => CheckFault::NoMemory,
+        LogFault::NoMemory(error) => CheckFault::NoMemory(error),
     }
 }

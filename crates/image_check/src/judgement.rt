@@ -45,7 +45,7 @@ pub(crate) fn judge(
             blocks: found.owners.count(),
         }),
         Ok(false) => Err(CheckFault::Tree(first_unlinked(table, &found.links))),
-        Err(_) => Err(CheckFault::NoMemory),
+        Err(error) => Err(CheckFault::NoMemory(error)),
     }
 }
 

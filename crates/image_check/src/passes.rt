@@ -162,6 +162,6 @@ fn of_part(cause: PartFault) -> CheckFault
     match cause {
         PartFault::Range => CheckFault::Range,
         PartFault::Device => CheckFault::Device,
-        PartFault::NoMemory => CheckFault::NoMemory,
+        PartFault::NoMemory(error) => CheckFault::NoMemory(error),
     }
 }

@@ -35,14 +35,14 @@ pub may_suspend : (snap : Snap) (number : ℕ) (why : Suspend) → number < snap
 may_suspend snap number (suspend.Need addr mode) less new asked = (new, inode number less asked.block asked.offset asked.len)
 may_suspend snap number (suspend.Claim block) less new asked = absurd asked
 may_suspend snap number suspend.Io less new asked = tt
-may_suspend snap number suspend.NoMemory less new asked = tt
+may_suspend snap number (suspend.NoMemory error) less new asked = tt
 
 pub resumes : (snap : Snap) (why : Suspend) (blocks : Image) (tree : Tree) → NoneStand snap why
     → IsOver snap blocks tree → IsResumable why
 resumes snap (suspend.Need addr mode) blocks tree none over = tt
 resumes snap (suspend.Claim block) blocks tree none over = tt
 resumes snap suspend.Io blocks tree none over = none blocks tree over.holds over.saw
-resumes snap suspend.NoMemory blocks tree none over = tt
+resumes snap (suspend.NoMemory error) blocks tree none over = tt
 
 -- ---- the file of a number
 

@@ -38,19 +38,19 @@ module _ (P Q : Addr → Type 0) (more : (addr : Addr) → P addr → Q addr) wh
   suspend_more (suspend.Need addr mode) asked = more addr asked
   suspend_more (suspend.Claim block) asked = absurd asked
   suspend_more suspend.Io asked = tt
-  suspend_more suspend.NoMemory asked = absurd asked
+  suspend_more (suspend.NoMemory error) asked = absurd asked
 
   pub may_suspend_more : (why : Suspend) → MaySuspendFor P why → MaySuspendFor Q why
   may_suspend_more (suspend.Need addr mode) asked = more addr asked
   may_suspend_more (suspend.Claim block) asked = absurd asked
   may_suspend_more suspend.Io asked = tt
-  may_suspend_more suspend.NoMemory asked = tt
+  may_suspend_more (suspend.NoMemory error) asked = tt
 
   pub suspend_may : (why : Suspend) → IsSuspendFor P why → MaySuspendFor Q why
   suspend_may (suspend.Need addr mode) asked = more addr asked
   suspend_may (suspend.Claim block) asked = absurd asked
   suspend_may suspend.Io asked = tt
-  suspend_may suspend.NoMemory asked = absurd asked
+  suspend_may (suspend.NoMemory error) asked = absurd asked
 
 pub block_asked : (number : ℕ) (addr : Addr) (mode : Mode) (why : Suspend) → IsBlockAddr number addr
     → why ≡ suspend.Need addr mode → IsSuspendFor (IsBlockAddr number) why

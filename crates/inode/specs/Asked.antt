@@ -15,14 +15,14 @@ abbrev pub IsSuspendFor : (Addr → Type 0) → Suspend → Type 0
 IsSuspendFor P (suspend.Need addr mode) = P addr
 IsSuspendFor P (suspend.Claim block) = ⊥
 IsSuspendFor P suspend.Io = Unit {0}
-IsSuspendFor P suspend.NoMemory = ⊥
+IsSuspendFor P (suspend.NoMemory error) = ⊥
 
 -- the same of a reading that takes memory: or for want of that
 abbrev pub MaySuspendFor : (Addr → Type 0) → Suspend → Type 0
 MaySuspendFor P (suspend.Need addr mode) = P addr
 MaySuspendFor P (suspend.Claim block) = ⊥
 MaySuspendFor P suspend.Io = Unit {0}
-MaySuspendFor P suspend.NoMemory = Unit {0}
+MaySuspendFor P (suspend.NoMemory error) = Unit {0}
 
 -- the address is that of the whole block of a number
 pub record IsBlockAddr (number : ℕ) (addr : Addr) : Type 0 where

@@ -38,14 +38,14 @@ MaySuspend snap (suspend.Need addr mode) = (is_had addr mode snap.objects.items 
 MaySuspend snap (suspend.Claim block) = (is_claimed block snap.claims.items ≡ false)
     × (is_data snap.geometry block.0 ≡ true)
 MaySuspend snap suspend.Io = Unit {0}
-MaySuspend snap suspend.NoMemory = Unit {0}
+MaySuspend snap (suspend.NoMemory error) = Unit {0}
 
 -- and not for what the layout refuses
 abbrev pub IsResumable : Suspend → Type 0
 IsResumable (suspend.Need addr mode) = Unit {0}
 IsResumable (suspend.Claim block) = Unit {0}
 IsResumable suspend.Io = ⊥
-IsResumable suspend.NoMemory = Unit {0}
+IsResumable (suspend.NoMemory error) = Unit {0}
 
 -- the number at an index of an indirect block, 0 where there is none
 abbrev pub pointer_number_at : Image → ℕ → ℕ → ℕ

@@ -43,7 +43,7 @@ abbrev pub IsAskedInode : Geometry → ℕ → Suspend → Type 0
 IsAskedInode g number (suspend.Need addr mode) = IsInodeAddr g number addr
 IsAskedInode g number (suspend.Claim block) = ⊥
 IsAskedInode g number suspend.Io = Unit {0}
-IsAskedInode g number suspend.NoMemory = Unit {0}
+IsAskedInode g number (suspend.NoMemory error) = Unit {0}
 
 -- these blocks have what was read
 abbrev pub AreAsRead : Image → List ObjectBytes → Type 0
@@ -57,6 +57,6 @@ Saw blocks snap = AreAsRead blocks snap.objects.items
 abbrev pub NoneStand : Snap → Suspend → Type 0
 NoneStand snap suspend.Io = (blocks : Image) (tree : Tree) → Holds snap.geometry blocks tree → Saw blocks snap
     → ⊥
-NoneStand snap suspend.NoMemory = Unit {0}
+NoneStand snap (suspend.NoMemory error) = Unit {0}
 NoneStand snap (suspend.Need addr mode) = Unit {0}
 NoneStand snap (suspend.Claim block) = Unit {0}

@@ -63,4 +63,4 @@ abbrev pub IsNew : Snap → Suspend → Type 0
 IsNew snap (suspend.Need addr mode) = is_had addr mode snap.objects.items snap.exclusives.items ≡ false
 IsNew snap (suspend.Claim block) = is_claimed block snap.claims.items ≡ false
 IsNew snap suspend.Io = Unit {0}
-IsNew snap suspend.NoMemory = Unit {0}
+IsNew snap (suspend.NoMemory error) = Unit {0}

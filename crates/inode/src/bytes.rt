@@ -30,6 +30,7 @@ fn block_part(
     requires within { from + len ≤ BLOCK_BYTES }
     ensures ok { IfOk result (λ part. (blocks : Image) (tree : Tree) → IsOver snap.now blocks tree
         → part ≡ take len (drop from (content_of (content_in snap.now.geometry blocks) number))) }
+    ensures short { IfOk result (λ part. length part ≤ len) }
     ensures err { IfErr result (λ suspend. MaySuspend snap.now suspend) }
     ensures asks { IfErr result (λ suspend. MaySuspendFor (IsBlockAddr number) suspend) }
     ensures resumable { IfErr result (λ suspend. IsResumable suspend) }

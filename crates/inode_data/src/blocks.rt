@@ -101,6 +101,6 @@ pub fn put_block(write_set: &mut WriteSet, number: u32, bytes: Vec<u8>) -> Resul
     let whole = Addr::whole(BlockNo(number));
     match shared(bytes) {
         Ok(block) => write_set.put_shared(whole, block),
-        Err(_) => Err(Suspend::NoMemory),
+        Err(error) => Err(Suspend::NoMemory(error)),
     }
 }

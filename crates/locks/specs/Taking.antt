@@ -14,4 +14,4 @@ IsFreeFor holds hold = IsFree holds hold.transaction hold.addr hold.mode
 abbrev pub IsTaking : List Hold → Hold → Take → List Hold → Type 0
 IsTaking old hold take.Held new = IsFreeFor old hold × (new ≡ with_hold old hold)
 IsTaking old hold take.Busy new = (IsFreeFor old hold → ⊥) × (new ≡ old)
-IsTaking old hold take.NoMemory new = IsFreeFor old hold × (new ≡ old)
+IsTaking old hold (take.NoMemory error) new = IsFreeFor old hold × (new ≡ old)

@@ -15,12 +15,12 @@ use std::marker::Model;
 use txn_law::Hold;
 
 /// What came of a lock request. Busy: what keeps it off has a byte of its address. NoMemory: it is free, but there was no
-/// room to note it.
+/// room to note it: it bears the refusal.
 #[derive(Clone, Copy, Debug, PartialEq, Eq)]
 pub enum Take {
     Held,
     Busy,
-    NoMemory,
+    NoMemory(AllocError),
 }
 
 /// Who has taken what. Its type keeps that no two holds share a byte, but those of two transactions that both
@@ -82,7 +82,7 @@ impl Table {
         }
         match self.take_free(hold) {
             Ok(()) => Take::Held,
-            Err(_) => Take::NoMemory,
+            Err(error) => Take::NoMemory(error),
         }
     }
 

@@ -31,7 +31,7 @@ abbrev pub format_line : FormatFault → List ℕ
 format_line format.Size = as_line (codes "nfsd: 1 Size")
 format_line format.Inodes = as_line (codes "nfsd: 2 Inodes")
 format_line format.Device = as_line (codes "nfsd: 3 Device")
-format_line format.NoMemory = as_line (codes "nfsd: 4 NoMemory")
+format_line (format.NoMemory error) = as_line (codes "nfsd: 4 NoMemory")
 
 -- why an image isn't opened
 abbrev pub open_line : OpenFault → List ℕ
@@ -40,7 +40,7 @@ open_line opening.Version = as_line (codes "nfsd: 2 Version")
 open_line opening.Range = as_line (codes "nfsd: 3 Range")
 open_line opening.Log = as_line (codes "nfsd: 4 Log")
 open_line opening.Device = as_line (codes "nfsd: 5 Device")
-open_line opening.NoMemory = as_line (codes "nfsd: 6 NoMemory")
+open_line (opening.NoMemory error) = as_line (codes "nfsd: 6 NoMemory")
 
 -- why an image isn't good, or can't be checked
 abbrev pub check_line : CheckFault → List ℕ
@@ -49,7 +49,7 @@ check_line checking.Version = as_line (codes "nfsd: 2 Version")
 check_line checking.Range = as_line (codes "nfsd: 3 Range")
 check_line checking.Log = as_line (codes "nfsd: 4 Log")
 check_line checking.Device = as_line (codes "nfsd: 5 Device")
-check_line checking.NoMemory = as_line (codes "nfsd: 6 NoMemory")
+check_line (checking.NoMemory error) = as_line (codes "nfsd: 6 NoMemory")
 check_line checking.Shared = as_line (codes "nfsd: 7 Shared")
 check_line checking.Bitmap = as_line (codes "nfsd: 8 Bitmap")
 check_line (checking.Tree it) = as_line (codes "nfsd: 9 Tree")

@@ -14,7 +14,7 @@ pub fn format_line(fault: FormatFault) -> &'static str
         FormatFault::Size => "nfsd: 1 Size\n",
         FormatFault::Inodes => "nfsd: 2 Inodes\n",
         FormatFault::Device => "nfsd: 3 Device\n",
-        FormatFault::NoMemory => "nfsd: 4 NoMemory\n",
+        FormatFault::NoMemory(_) => "nfsd: 4 NoMemory\n",
     }
 }
 
@@ -28,7 +28,7 @@ pub fn open_line(fault: OpenFault) -> &'static str
         OpenFault::Range => "nfsd: 3 Range\n",
         OpenFault::Log => "nfsd: 4 Log\n",
         OpenFault::Device => "nfsd: 5 Device\n",
-        OpenFault::NoMemory => "nfsd: 6 NoMemory\n",
+        OpenFault::NoMemory(_) => "nfsd: 6 NoMemory\n",
     }
 }
 
@@ -42,7 +42,7 @@ pub fn check_line(fault: CheckFault) -> &'static str
         CheckFault::Range => "nfsd: 3 Range\n",
         CheckFault::Log => "nfsd: 4 Log\n",
         CheckFault::Device => "nfsd: 5 Device\n",
-        CheckFault::NoMemory => "nfsd: 6 NoMemory\n",
+        CheckFault::NoMemory(_) => "nfsd: 6 NoMemory\n",
         CheckFault::Shared => "nfsd: 7 Shared\n",
         CheckFault::Bitmap => "nfsd: 8 Bitmap\n",
         CheckFault::Tree(_) => "nfsd: 9 Tree\n",

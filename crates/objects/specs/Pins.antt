@@ -1,5 +1,5 @@
 -- The blocks that are in memory besides the log's, and how often each block is pinned.
-use Rattle.std.specs.Prelude.{◌≡◌, ℕ, ◌+◌, ◌-◌, ◌^◌, ◌<◌, Bool, ◌||◌, if◌then◌else◌, List, IsSome}
+use Rattle.std.specs.Prelude.{◌≡◌, ℕ, ◌+◌, ◌-◌, Bool, ◌||◌, if◌then◌else◌, List, IsSome}
 use Rattle.std.specs.Prelude.{is_none, nat_eq, nat_lt}
 use Rattle.std.specs.List.{filter}
 use Rattle.std.specs.Map.{lookup}
@@ -21,9 +21,9 @@ count_in counts block = unwrap_or (lookup (nat_eq block.0) counts) 0
 abbrev pub pins_of : Residents → BlockNo → ℕ
 pins_of residents block = count_in residents.counts block
 
--- one pin more of the block can be counted, and needs no memory
+-- one pin more of the block needs no memory
 abbrev pub HasReserved : List (ℕ × ℕ) → BlockNo → Type 0
-HasReserved counts block = IsSome (lookup (nat_eq block.0) counts) × (count_in counts block + 1 < 2 ^ 64)
+HasReserved counts block = IsSome (lookup (nat_eq block.0) counts)
 
 -- one at this block
 abbrev pub once_at : BlockNo → BlockNo → ℕ

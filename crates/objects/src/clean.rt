@@ -16,7 +16,7 @@ use std::collections::HashMap;
 /// many. Where there is no memory to note it, the block goes itself.
 pub(crate) fn keep_clean(
     blocks: &mut Blocks,
-    pins: &HashMap<u32, u64>,
+    pins: &HashMap<u32, u128>,
     recent: &mut Recent,
     block: BlockNo,
 )
@@ -35,7 +35,7 @@ pub(crate) fn keep_clean(
 }
 
 // Lets a block go where nobody has pinned it and no fetch of it is pending.
-fn let_clean_go(blocks: &mut Blocks, pins: &HashMap<u32, u64>, block: BlockNo)
+fn let_clean_go(blocks: &mut Blocks, pins: &HashMap<u32, u128>, block: BlockNo)
     ensures goes { LetsGo (count_in pins.now.entries) blocks.old blocks.new }
     ensures tracked { (numbers : List ℕ) → AreTracked (block.0 ∷ numbers) (count_in pins.now.entries) blocks.old
         → AreTracked numbers (count_in pins.now.entries) blocks.new }
@@ -46,14 +46,14 @@ fn let_clean_go(blocks: &mut Blocks, pins: &HashMap<u32, u64>, block: BlockNo)
 }
 
 // Lets all blocks go that nobody has pinned, of which no fetch is pending and which aren't noted.
-fn let_others_go(blocks: &mut Blocks, pins: &HashMap<u32, u64>, recent: &Recent)
+fn let_others_go(blocks: &mut Blocks, pins: &HashMap<u32, u128>, recent: &Recent)
     ensures { blocks.new ≡ spared (λ one. is_tracked recent.now one.block) (count_in pins.now.entries) blocks.old }
 {
     blocks.keep_only(|resident| stays(pins, recent, resident));
 }
 
 // Whether the block is pinned, a fetch of it is pending, or it is noted.
-fn stays(pins: &HashMap<u32, u64>, recent: &Recent, resident: &Present) -> bool
+fn stays(pins: &HashMap<u32, u128>, recent: &Recent, resident: &Present) -> bool
     ensures { result ≡ (is_tracked recent.now resident.now.block || is_wanted (count_in pins.now.entries) resident.now) }
 {
     resident.content.is_none() || count_of(pins, resident.block) > 0 || recent.has(resident.block)

@@ -9,43 +9,37 @@ use std::alloc::AllocError;
 use std::collections::HashMap;
 
 /// How often the block is pinned.
-pub(crate) fn count_of(pins: &HashMap<u32, u64>, block: BlockNo) -> u64
+pub(crate) fn count_of(pins: &HashMap<u32, u128>, block: BlockNo) -> u128
     ensures { result ≡ count_in pins.now.entries block }
 {
     pins.get(&block.0).copied().unwrap_or(0)
 }
 
 /// Pins the block once more. Where there is no room nothing changes.
-pub(crate) fn add(pins: &mut HashMap<u32, u64>, block: BlockNo) -> Result<(), AllocError>
+pub(crate) fn add(pins: &mut HashMap<u32, u128>, block: BlockNo) -> Result<(), AllocError>
+    requires { count_in pins.old.entries block + 1 < 2 ^ 128 }
     ensures added { OnOk result ((at : BlockNo) → count_in pins.new.entries at
         ≡ count_in pins.old.entries at + once_at block at) }
     ensures refused { OnErr result ((at : BlockNo) → count_in pins.new.entries at ≡ count_in pins.old.entries at) }
 {
     let count = count_of(pins, block);
-    if count == u64::MAX {
-        return Err(AllocError);
-    }
     pins.insert(block.0, count + 1)?;
     Ok(())
 }
 
 /// Makes room for one pin more of the block. Nothing else changes.
-pub(crate) fn reserve_next(pins: &mut HashMap<u32, u64>, block: BlockNo) -> Result<(), AllocError>
+pub(crate) fn reserve_next(pins: &mut HashMap<u32, u128>, block: BlockNo) -> Result<(), AllocError>
     ensures has_space { OnOk result (HasReserved pins.new.entries block) }
     ensures same { (at : BlockNo) → count_in pins.new.entries at ≡ count_in pins.old.entries at }
 {
-    match pins.get(&block.0).copied() {
-        Some(u64::MAX) => return Err(AllocError),
-        Some(_) => {}
-        None => {
-            pins.insert(block.0, 0)?;
-        }
+    if pins.get(&block.0).is_none() {
+        pins.insert(block.0, 0)?;
     }
     Ok(())
 }
 
 // Makes the count of a block that is counted this one.
-fn set(pins: &mut HashMap<u32, u64>, block: BlockNo, count: u64)
+fn set(pins: &mut HashMap<u32, u128>, block: BlockNo, count: u128)
     requires { IsSome (lookup (nat_eq block.0) pins.old.entries) }
     ensures { (at : BlockNo) → count_in pins.new.entries at
         ≡ (if nat_eq at.0 block.0 then count else count_in pins.old.entries at) }
@@ -56,8 +50,9 @@ fn set(pins: &mut HashMap<u32, u64>, block: BlockNo, count: u64)
 }
 
 /// Pins a block once more for which there is room.
-pub(crate) fn add_reserved(pins: &mut HashMap<u32, u64>, block: BlockNo)
-    requires { HasReserved pins.old.entries block }
+pub(crate) fn add_reserved(pins: &mut HashMap<u32, u128>, block: BlockNo)
+    requires reserved { HasReserved pins.old.entries block }
+    requires countable { count_in pins.old.entries block + 1 < 2 ^ 128 }
     ensures { (at : BlockNo) → count_in pins.new.entries at ≡ count_in pins.old.entries at + once_at block at }
 {
     let count = count_of(pins, block);
@@ -65,9 +60,9 @@ pub(crate) fn add_reserved(pins: &mut HashMap<u32, u64>, block: BlockNo)
 }
 
 /// Pins a block once more that is pinned.
-pub(crate) fn add_again(pins: &mut HashMap<u32, u64>, block: BlockNo)
+pub(crate) fn add_again(pins: &mut HashMap<u32, u128>, block: BlockNo)
     requires there { 0 < count_in pins.old.entries block }
-    requires has_space { count_in pins.old.entries block + 1 < 2 ^ 64 }
+    requires countable { count_in pins.old.entries block + 1 < 2 ^ 128 }
     ensures { (at : BlockNo) → count_in pins.new.entries at ≡ count_in pins.old.entries at + once_at block at }
 {
     let count = count_of(pins, block);
@@ -75,7 +70,7 @@ pub(crate) fn add_again(pins: &mut HashMap<u32, u64>, block: BlockNo)
 }
 
 /// Takes one pin off a block, if it has one, and tells how many are left.
-pub(crate) fn take(pins: &mut HashMap<u32, u64>, block: BlockNo) -> u64
+pub(crate) fn take(pins: &mut HashMap<u32, u128>, block: BlockNo) -> u128
     ensures counts { (at : BlockNo) → count_in pins.new.entries at ≡ count_in pins.old.entries at - once_at block at }
     ensures left { result ≡ count_in pins.new.entries block }
 {

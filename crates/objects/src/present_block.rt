@@ -4,9 +4,9 @@ ghost use Rattle.objects.specs.Counted.{IsCountedIn};
 ghost use Rattle.objects.specs.Spliced.{extracted};
 
 use crate::{Addr, Counted, SharedBytes};
-use base::{BLOCK_BYTES, CowBlock};
+use base::{BLOCK_BYTES, CowBlock, apart};
 use disk::{Block, SharedBlock};
-use std::alloc::{AllocError, AllocFailed, Global};
+use std::alloc::{AllocError, Global};
 use std::marker::Model;
 
 /// A block's content, and what its numbers count to. A block stands as it was read until somebody first asks for a part of
@@ -82,7 +82,10 @@ impl PresentBlock {
                 let bytes: Result<SharedBytes, AllocError> = part_of(&shared, addr, &mut counted);
                 (CowBlock::shared(shared), bytes)
             }
-            Err(AllocFailed { value }) => (CowBlock::owned(value), Err(AllocError)),
+            Err(failed) => {
+                let (error, block) = apart(failed);
+                (CowBlock::owned(block), Err(error))
+            }
         };
         (PresentBlock { block, counted }, bytes)
     }

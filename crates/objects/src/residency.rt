@@ -26,7 +26,7 @@ use std::marker::Model;
 pub struct Residency {
     blocks: Blocks,
     // How often a block is pinned, by its number.
-    pins: HashMap<u32, u64>,
+    pins: HashMap<u32, u128>,
     // Which of those that nobody has pinned go first.
     recent: Recent,
 }
@@ -126,25 +126,17 @@ impl Residency {
 
     /// Pins a block once more for which there is room, whether it is in memory or not.
     pub fn pin_reserved(&mut self, block: BlockNo)
-        requires { HasReserved self.old.counts block }
+        requires reserved { HasReserved self.old.counts block }
+        requires countable { pins_of self.old block + 1 < 2 ^ 128 }
         ensures { Pins self.old (once_at block) self.new }
     {
         pins::add_reserved(&mut self.pins, block);
     }
 
-    /// Whether so many pins more of the block can be counted.
-    pub fn can_pin(&self, block: BlockNo, more: usize) -> bool
-        ensures { IsTrue result ↔ (pins_of self.now block + more < 2 ^ 64) }
-    {
-        let count = pins::count_of(&self.pins, block);
-        let more = more as u64;
-        count <= u64::MAX - more
-    }
-
     /// Pins a block once more that is pinned and whose pins can be counted.
     pub fn pin_again(&mut self, block: BlockNo)
         requires there { 0 < pins_of self.old block }
-        requires has_space { pins_of self.old block + 1 < 2 ^ 64 }
+        requires countable { pins_of self.old block + 1 < 2 ^ 128 }
         ensures { Pins self.old (once_at block) self.new }
     {
         pins::add_again(&mut self.pins, block);
@@ -153,6 +145,7 @@ impl Residency {
     /// Pins a block once more and brings it into memory with this content, or with a fetch pending where there is
     /// none. One that is in memory, or is being fetched, stays as it is. Where there is no room nothing changes.
     pub fn bring(&mut self, block: BlockNo, content: Option<SharedBlock>) -> Result<(), AllocError>
+        requires { pins_of self.old block + 1 < 2 ^ 128 }
         ensures blocks { OnOk result (self.new.blocks ≡ with_block self.old.blocks block content) }
         ensures pinned { OnOk result ((at : BlockNo)
             → pins_of self.new at ≡ pins_of self.old at + once_at block at) }

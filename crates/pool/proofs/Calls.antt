@@ -13,7 +13,8 @@ use Rattle.store_workers.proofs.WorkCases.{Cases, by_cases}
 use Rattle.store_workers.specs.WorkerSteps.{GoesOn, WorkerAndCore, planned_of}
 use Rattle.store_workers.specs.declared.workers.parts.Phase.{Phase}
 use Rattle.txn.specs.Core.{CoreState}
-use Rattle.txn.specs.Outcomes.{IsClaimed, IsCommit, IsWanted}
+use Rattle.txn.specs.Outcomes.{IsClaimed, IsCommit, IsWanted, unbegun}
+use Rattle.txn.proofs.Answered.{unbegun_by}
 use Rattle.txn.specs.declared.outcomes.Claim.{Claim}
 use Rattle.txn.specs.declared.outcomes.Claim.TheVariants as claim
 use Rattle.txn.specs.declared.outcomes.Commit.{Commit}
@@ -46,21 +47,21 @@ module _ (old new : CoreState) where
   wanted tx addr mode (want.Busy back) is = same old new is.2
   wanted tx addr mode (want.Loading back) is = same old new is.2
   wanted tx addr mode (want.Outside back) is = same old new is.2
-  wanted tx addr mode (want.NoMemory back) is = same old new is.2
+  wanted tx addr mode (want.NoMemory back error) is = by old _ new is.2 refl refl refl
 
   claimed : (tx : ℕ) (addr : Addr) (answer : Claim) → IsClaimed old tx addr answer new → HandsOutNone old new
   claimed tx addr (claim.Held back) is = by old _ new is.2.only refl refl refl
   claimed tx addr (claim.Busy back) is = same old new is.2
   claimed tx addr (claim.Loading back) is = same old new is.2
   claimed tx addr (claim.Outside back) is = same old new is.2
-  claimed tx addr (claim.NoMemory back) is = same old new is.2
+  claimed tx addr (claim.NoMemory back error) is = by old _ new is.2 refl refl refl
 
   committed : (tx : ℕ) (done : Outcome) (answer : Commit Outcome)
       → IsCommit old tx (planned_of done) done answer new → HandsOutNone old new
   committed tx done (commit.Committed receipt) is = by old _ new is.only refl refl refl
   committed tx done (commit.Full back same_change) is = same old new is.0.core
   committed tx done (commit.Foreign back same_change) is = same old new is.0.core
-  committed tx done (commit.NoMemory back same_change) is = same old new is.0.core
+  committed tx done (commit.NoMemory back same_change error) is = by old _ new is.0.core refl refl refl
   committed tx done (commit.Broken back same_change) is = same old new is.0.core
   committed tx done (commit.Spent back same_change) is = same old new is.0.core
 
@@ -72,7 +73,9 @@ cases old new = record {
   idle = λ is. same old.core new.core (ap (λ (s : WorkerAndCore). s.core) is);
   reading = λ is. same old.core new.core (ap (λ (s : WorkerAndCore). s.core) is);
   begun = λ job number job_is served has. by old.core _ new.core has.core refl refl refl;
-  not_begun = λ job why job_is served no core worker. same old.core new.core core;
+  not_begun = λ job why job_is served no core worker.
+      unbegun_by (λ (c : CoreState). new.core ≡ c → HandsOutNone old.core new.core) why old.core
+      (same old.core new.core) (λ one. by old.core _ new.core one refl refl refl) core;
   replied = λ job job_is served core worker. same old.core new.core core;
   wanted = λ tx addr mode made tx_is next has. wanted old.core new.core tx addr mode has.answer has.core;
   claimed = λ tx block made tx_is next has. claimed old.core new.core tx has.core.0 has.answer has.core.2;

@@ -1,15 +1,18 @@
 -- A step of a worker takes a place just where it is told that its change was committed.
-use Rattle.std.proofs.Common.{arith, ◌≡◌, ◌∙◌, ap, ℕ, ◌+◌, Bool, true, false, Option, Some}
+use Rattle.std.proofs.Common.{arith, ◌≡◌, ◌∙◌, ap, ℕ, ◌+◌, Bool, true, false, Option, Some, Err}
 use Rattle.objects.specs.declared.addr.Addr.{Addr}
 use Rattle.objects.specs.declared.mode.Mode.{Mode}
 use Rattle.procs.specs.Outcome.{Outcome}
 use Rattle.store_promise.specs.declared.events.Step.{Step}
+use Rattle.store_promise.specs.declared.events.Step.TheVariants as step
 use Rattle.store_workers.proofs.WorkCases.{Cases, by_cases}
 use Rattle.store_workers.specs.WorkerAnswers.{claim_answer, committing_of, want_answer}
 use Rattle.store_workers.specs.WorkerSteps.{GoesOn, WorkerAndCore, given_step, planned_of}
 use Rattle.store_workers.specs.declared.workers.parts.Phase.{Phase}
+use Rattle.store_workers.specs.declared.workers.parts.Phase.TheVariants.{Called}
 use Rattle.txn.specs.Core.{CoreState}
-use Rattle.txn.specs.Outcomes.{IsClaimed, IsCommit, IsWanted}
+use Rattle.txn.specs.Outcomes.{IsClaimed, IsCommit, IsWanted, unbegun}
+use Rattle.txn.proofs.Answered.{unbegun_by}
 use Rattle.txn.specs.declared.outcomes.Claim.{Claim}
 use Rattle.txn.specs.declared.outcomes.Claim.TheVariants as claim
 use Rattle.txn.specs.declared.outcomes.Commit.{Commit}
@@ -35,7 +38,7 @@ module _ (old new : CoreState) where
   wanted tx addr mode (want.Busy back) is = same old new is.2
   wanted tx addr mode (want.Loading back) is = same old new is.2
   wanted tx addr mode (want.Outside back) is = same old new is.2
-  wanted tx addr mode (want.NoMemory back) is = same old new is.2
+  wanted tx addr mode (want.NoMemory back error) is = none old new (ap places is.2)
 
   claimed : (tx : ℕ) (addr : Addr) (answer : Claim) → IsClaimed old tx addr answer new
       → places new ≡ places old + grown (result_of_lock_answer (claim_answer answer))
@@ -43,7 +46,7 @@ module _ (old new : CoreState) where
   claimed tx addr (claim.Busy back) is = same old new is.2
   claimed tx addr (claim.Loading back) is = same old new is.2
   claimed tx addr (claim.Outside back) is = same old new is.2
-  claimed tx addr (claim.NoMemory back) is = same old new is.2
+  claimed tx addr (claim.NoMemory back error) is = none old new (ap places is.2)
 
   committed : (tx : ℕ) (done : Outcome) (answer : Commit Outcome)
       → IsCommit old tx (planned_of done) done answer new
@@ -51,7 +54,7 @@ module _ (old new : CoreState) where
   committed tx done (commit.Committed receipt) is = is.places
   committed tx done (commit.Full back same_change) is = same old new is.0.core
   committed tx done (commit.Foreign back same_change) is = same old new is.0.core
-  committed tx done (commit.NoMemory back same_change) is = same old new is.0.core
+  committed tx done (commit.NoMemory back same_change error) is = none old new (ap places is.0.core)
   committed tx done (commit.Broken back same_change) is = same old new is.0.core
   committed tx done (commit.Spent back same_change) is = same old new is.0.core
 
@@ -68,7 +71,9 @@ cases old new = record {
   idle = λ is. same old.core new.core (ap (λ (s : WorkerAndCore). s.core) is);
   reading = λ is. same old.core new.core (ap (λ (s : WorkerAndCore). s.core) is);
   begun = λ job number job_is served has. none old.core new.core (ap places has.core);
-  not_begun = λ job why job_is served no core worker. same old.core new.core core;
+  not_begun = λ job why job_is served no core worker.
+      unbegun_by (λ (c : CoreState). new.core ≡ c → TakesPlaces old new Called (Some (step.Begun (Err why)))) why old.core
+      (λ is. none old.core new.core (ap places is)) (λ one. none old.core new.core (ap places one)) core;
   replied = λ job job_is served core worker. same old.core new.core core;
   wanted = λ tx addr mode made tx_is next has. wanted old.core new.core tx addr mode has.answer has.core;
   claimed = λ tx block made tx_is next has. claimed old.core new.core tx has.core.0 has.answer has.core.2;

@@ -1,5 +1,5 @@
 -- A step keeps what a worker has its job's, and what it gives answers the job.
-use Rattle.std.proofs.Common.{◌≡◌, ◌∙◌, refl, sym, ap, subst, ℕ, List, Bool, true, false, true≢false, Option, Some, None, inl, inr}
+use Rattle.std.proofs.Common.{◌≡◌, ◌∙◌, refl, sym, ap, subst, ℕ, List, Bool, true, false, true≢false, Option, Some, None, inl, inr, alloc_error}
 use Rattle.std.specs.Prelude.{IsSomeAnd, IsTrue, MatchOption, if◌then◌else◌, is_some, option_map, ◌↔◌, ◌≤◌, unwrap_or}
 use Rattle.disk.specs.Ports.{AnsweredCalls}
 use Rattle.disk.specs.declared.block.BlockNo.{BlockNo}
@@ -51,9 +51,9 @@ use Rattle.txn.specs.declared.outcomes.Want.{Want}
 use Rattle.txn.specs.declared.outcomes.Want.TheVariants as want
 use Rattle.circ.specs.Log.Log.{settled_place}
 use Rattle.circ.specs.declared.log.outcomes.Seq.{Seq}
-use Rattle.pool_requests.specs.Answers.Evident.{Answered, IsSubstitute, IsOwn}
+use Rattle.pool_requests.specs.Answers.Evident.{Answered, IsOwn}
 use Rattle.pool_requests.specs.Jobs.Sent.{Sent}
-use Rattle.pool.specs.Answers.{GivesBy, GivesFor, body_of, in_flight_after, in_flight_with, given_to, kept, way_by}
+use Rattle.pool.specs.Answers.{GivesBy, GivesFor, IsInPlace, in_flight_after, in_flight_with, given_to, kept, way_by}
 use Rattle.pool.specs.Seated.{HasCall, IsOf, IsSeated, StandsWith, WaitsWith}
 use Rattle.pool.specs.Stepping.{ReadsFrom}
 use Rattle.pool.specs.Working.{Working}
@@ -88,10 +88,10 @@ record Leaves (sent : Sent) (witness : Option (Given Outcome)) (core : CoreState
   pub stands : StandsAfter (Some sent) witness state.work.answer state
   pub gives : given_to core made (Some sent) witness state.work.answer
 
-substitute : (call : Call) (why : Cause) → IsSubstitute call (body_of (refusal call why))
-substitute call cause.NoMemory = inl refl
-substitute call cause.Io = inr (inl refl)
-substitute call cause.Spent = inr (inr refl)
+in_place : (call : Call) (why : Cause) → IsInPlace call (refusal call why)
+in_place call (cause.NoMemory error) = tt
+in_place call cause.Io = inl refl
+in_place call cause.Spent = inr refl
 
 module _ (sent : Sent) (before shown : Option (Given Outcome)) (old new : WorkerAndCore) (none : old.worker.work.answer ≡ None) where
   abbrev keeping : Option (Given Outcome)
@@ -147,7 +147,7 @@ module _ (sent : Sent) (before shown : Option (Given Outcome)) (old new : Worker
       by (want.Busy back) = stays tells _ none (deferred (is_barred (lock_request.Object addr mode) old.worker.known.taken) _ call)
       by (want.Loading back) = stays tells _ none (deferred (is_barred (lock_request.Object addr mode) old.worker.known.taken) _ call)
       by (want.Outside back) = stays tells _ none call
-      by (want.NoMemory back) = stays tells _ none call
+      by (want.NoMemory back error) = stays tells _ none call
 
   claims : (tx : ℕ) (block : BlockNo) (made : Step) (tells : Option Step) (has : HasClaimed tx block old made new)
       → HasCall old.worker sent → Leaves sent keeping new.core tells new.worker
@@ -162,7 +162,7 @@ module _ (sent : Sent) (before shown : Option (Given Outcome)) (old new : Worker
       by (claim.Busy back) = stays tells _ none (deferred (is_barred (lock_request.Claim block) old.worker.known.taken) _ call)
       by (claim.Loading back) = stays tells _ none (deferred (is_barred (lock_request.Claim block) old.worker.known.taken) _ call)
       by (claim.Outside back) = stays tells _ none call
-      by (claim.NoMemory back) = stays tells _ none call
+      by (claim.NoMemory back error) = stays tells _ none call
 
   module _ (mine : own.Job) (of : IsOf sent mine) (done : Outcome) (call : HasCall old.worker sent) where
     abbrev planned : State
@@ -230,7 +230,7 @@ module _ (sent : Sent) (before shown : Option (Given Outcome)) (old new : Worker
             record { stands = it.stands; gives = it.gives }
     commits_by blocks (commit.Full back same) worker witnesses_commit = stays _ _ none call
     commits_by blocks (commit.Foreign back same) worker witnesses_commit = stays _ _ none call
-    commits_by blocks (commit.NoMemory back same) worker witnesses_commit = stays _ _ none call
+    commits_by blocks (commit.NoMemory back same error) worker witnesses_commit = stays _ _ none call
     commits_by blocks (commit.Broken back same) worker witnesses_commit = stays _ _ none call
     commits_by blocks (commit.Spent back same) worker witnesses_commit = stays _ _ none call
 
@@ -262,7 +262,7 @@ module _ (sent : Sent) (before shown : Option (Given Outcome)) (old new : Worker
         old.worker.work.reply given.change.reply stands.reply_is reply_now_given)
     waits_by false true reply_now_given settled_is =
         answers (Some (step.Stable place false)) without_broken (verdict.Reply (refused status.Io sent.job.call)) (Some place)
-        (inr (inl refl)) (at_some (λ (reply : Reply). new.worker
+        (inl refl) (at_some (λ (reply : Reply). new.worker
         ≡ with_answer (verdict.Reply reply) (Some place) without_broken)
         old.worker.work.broken_reply (refused status.Io sent.job.call) stands.broken_is reply_now_given)
     waits_by false false reply_now_given settled_is = unchanged (Some (step.Stable place false)) (Waiting place) phase_is
@@ -296,8 +296,8 @@ module _ (sent : Sent) (before shown : Option (Given Outcome)) (old new : Worker
     not_begun = λ mine why mine_is served no core worker phase_is stands witnesses_commit.
         let of = own_job old.worker mine mine_is stands in
         answers _ old.worker (refusal mine.call (cause_of why)) None
-        (subst (λ (c : Call). IsSubstitute sent.job.call (body_of (refusal c (cause_of why)))) (sym of.call)
-        (substitute sent.job.call (cause_of why))) worker;
+        (subst (λ (c : Call). IsInPlace sent.job.call (refusal c (cause_of why))) (sym of.call)
+        (in_place sent.job.call (cause_of why))) worker;
     replied = λ mine mine_is served core worker phase_is stands witnesses_commit.
         let of = own_job old.worker mine mine_is stands in
         answers _ old.worker (verdict.Reply Null) None
@@ -308,13 +308,13 @@ module _ (sent : Sent) (before shown : Option (Given Outcome)) (old new : Worker
         let of = own_job old.worker mine mine_is stands in
         so _ _ has.worker (commits_by mine of done stands _ has.answer has.worker witnesses_commit);
     lacked = λ tx made tx_is left has phase_is stands witnesses_commit.
-        answers _ (record (with_snap new.worker old.worker) { begun = none_begun }) verdict.NoMemory None (inl refl) has.worker;
+        answers _ (record (with_snap new.worker old.worker) { begun = none_begun }) (verdict.NoMemory alloc_error) None tt has.worker;
     given = λ ok io made io_is has phase_is stands witnesses_commit. gives_back ok io made _ has stands;
     refused = λ why mine tx made mine_is tx_is has phase_is stands witnesses_commit.
         let of = own_job old.worker mine mine_is stands in
         answers _ (record old.worker { begun = none_begun }) (refusal mine.call why) None
-        (subst (λ (c : Call). IsSubstitute sent.job.call (body_of (refusal c why))) (sym of.call)
-        (substitute sent.job.call why)) has.worker;
+        (subst (λ (c : Call). IsInPlace sent.job.call (refusal c why)) (sym of.call)
+        (in_place sent.job.call why)) has.worker;
     left = λ tx made tx_is has phase_is stands witnesses_commit. so _ _ has.worker (stays _ _ none stands);
     waited = λ place made has phase_is stands witnesses_commit. waits_with before refl place made has phase_is stands witnesses_commit;
   }

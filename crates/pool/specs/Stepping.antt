@@ -52,13 +52,13 @@ result_of_lock_answer lock_answer.Loading = LockDeferred
 result_of_lock_answer lock_answer.Held = Nothing
 result_of_lock_answer lock_answer.Fetch = Nothing
 result_of_lock_answer lock_answer.Outside = Nothing
-result_of_lock_answer lock_answer.NoMemory = Nothing
+result_of_lock_answer (lock_answer.NoMemory error) = Nothing
 
 abbrev pub result_of_commit : Committing → StepResult
 result_of_commit (committing.Committed place) = Committed
 result_of_commit committing.Full = Full
 result_of_commit committing.Foreign = Nothing
-result_of_commit committing.NoMemory = Nothing
+result_of_commit (committing.NoMemory error) = Nothing
 result_of_commit committing.Broken = Nothing
 result_of_commit committing.Spent = Nothing
 

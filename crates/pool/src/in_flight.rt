@@ -1,11 +1,12 @@
 //! What a seat has of its job.
 ghost use Rattle.std.specs.Prelude.{◌≡◌, ◌≤◌, IsSomeAnd, IsTrue};
-ghost use Rattle.pool.specs.Answers.{GivesBy, answer_of, body_of, in_flight_with, given_to, kept, way_by};
+ghost use Rattle.pool.specs.Answers.{GivesBy, IsInPlace, answer_of, body_of, evidence_of_verdict, in_flight_with};
+ghost use Rattle.pool.specs.Answers.{given_to, kept, way_by};
+ghost use Rattle.pool_requests.specs.Answers.Evident.{answer_to as made_of};
 
 use nfs_types::ProgramReply;
 use pool_requests::{Answer, ReplyAddress};
 use procs::{CommitWitness, Done};
-use rpc::Refusal;
 use session_wire::ReplyBody;
 use std::marker::Model;
 use std::sync::ledger::{Ledger, Share};
@@ -38,7 +39,7 @@ pub(crate) enum Way {
     Settled(Seq),
     /// That the call begins no transaction.
     Nothing,
-    /// A refusal.
+    /// A refusal: IO, SERVERFAULT, or that memory was refused.
     Substitute,
 }
 
@@ -167,17 +168,25 @@ fn answer_of<L: Ledger>(
             return Answer::of_nothing(reply_address, share);
         }
         (_, _, verdict) => {
-            return Answer::substitute(reply_address, body_of(verdict), share);
+            return in_its_place(reply_address, verdict, share);
         }
     }
 }
 
-// What came of a procedure, as the body of a message.
-fn body_of(verdict: Verdict) -> ReplyBody
-    ensures { result ≡ body_of verdict }
+// What is answered in the place of a reply.
+fn in_its_place<L: Ledger>(
+    reply_address: ReplyAddress,
+    verdict: Verdict,
+    share: &Share<L>,
+) -> Answer<L>
+    requires { IsInPlace reply_address.job.call verdict }
+    ensures { result ≡ made_of reply_address.job (body_of verdict) (evidence_of_verdict reply_address verdict) }
 {
     match verdict {
-        Verdict::Reply(reply) => ReplyBody::Done(ProgramReply::Nfs(reply)),
-        Verdict::NoMemory => ReplyBody::Refused(Refusal::SystemError),
+        Verdict::Reply(reply) => {
+            let body = ReplyBody::Done(ProgramReply::Nfs(reply));
+            Answer::substitute(reply_address, body, share)
+        }
+        Verdict::NoMemory(error) => Answer::lacking(reply_address, error, share),
     }
 }

@@ -208,7 +208,7 @@ fn result_of_lock_answer(lock_answer: LockAnswer) -> StepResult
 {
     match lock_answer {
         LockAnswer::Busy | LockAnswer::Loading => StepResult::LockDeferred,
-        LockAnswer::Held | LockAnswer::Fetch | LockAnswer::Outside | LockAnswer::NoMemory =>
+        LockAnswer::Held | LockAnswer::Fetch | LockAnswer::Outside | LockAnswer::NoMemory(_) =>
             StepResult::Nothing,
     }
 }
@@ -219,7 +219,7 @@ fn result_of_commit(ended: Committing) -> StepResult
     match ended {
         Committing::Committed(_) => StepResult::Committed,
         Committing::Full => StepResult::Full,
-        Committing::Foreign | Committing::NoMemory => StepResult::Nothing,
+        Committing::Foreign | Committing::NoMemory(_) => StepResult::Nothing,
         Committing::Broken | Committing::Spent => StepResult::Nothing,
     }
 }

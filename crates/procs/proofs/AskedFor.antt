@@ -69,7 +69,7 @@ pub asks_inode : (snap : Snap) (number : ℕ) → number < snap.geometry.inodes 
 asks_inode snap number within (Need addr mode) at = inode number within at.block at.offset at.len
 asks_inode snap number within (Claim block) at = absurd at
 asks_inode snap number within Io at = tt
-asks_inode snap number within NoMemory at = tt
+asks_inode snap number within (NoMemory error) at = tt
 
 pub indirect_data : (snap : Snap) (number : ℕ) (one : Inode) → WasReadInode snap.geometry snap.objects.items number one
     → (one.indirect ≡ 0 → ⊥) → is_data snap.geometry one.indirect ≡ true

@@ -69,7 +69,7 @@ module _ (snap : Snap) (ctx : Ctx) (c : Call) (boot : ctx.boot < 2 ^ 64) (transa
       → NoneStandFor ctx c snap why
   changed_fails (suspend.Need addr mode) resumes = tt
   changed_fails (suspend.Claim block) resumes = tt
-  changed_fails suspend.NoMemory resumes = tt
+  changed_fails (suspend.NoMemory error) resumes = tt
   changed_fails suspend.Io resumes = λ blocks tree sound stands saw.
       resumes blocks tree (starts blocks tree stands saw) stands.parts.sound
       (sound_ctx ctx c boot transaction sound) sound.fits
@@ -79,6 +79,6 @@ pub for_calls : (ctx : Ctx) (c : Call) (snap : Snap) (why : Suspend) → NoneSta
     → NoneStandFor ctx c snap why
 for_calls ctx c snap (suspend.Need addr mode) none = tt
 for_calls ctx c snap (suspend.Claim block) none = tt
-for_calls ctx c snap suspend.NoMemory none = tt
+for_calls ctx c snap (suspend.NoMemory error) none = tt
 for_calls ctx c snap suspend.Io none = λ blocks tree sound stands saw.
     none blocks tree (holds_of snap.geometry blocks tree stands) saw

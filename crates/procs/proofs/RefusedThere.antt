@@ -157,7 +157,7 @@ io_by_none asked snap (plan.Done done) none = λ blocks saw refused. elim refuse
 ]
 io_by_none asked snap (plan.Need addr mode) none = tt
 io_by_none asked snap (plan.Claim block) none = tt
-io_by_none asked snap plan.NoMemory none = tt
+io_by_none asked snap (plan.NoMemory error) none = tt
 
 pub io_by_reply : (asked : Call) (snap : Snap) (next : Plan) (outcome : Outcome) → IsDoneWith outcome next
     → outcome.reply ≡ refused status.Io asked → outcome.written ≡ [] → IsIoWhereRefused asked snap next
@@ -167,4 +167,4 @@ io_by_reply asked snap (plan.Done done) outcome is reply written = λ blocks saw
 )
 io_by_reply asked snap (plan.Need addr mode) outcome is reply written = tt
 io_by_reply asked snap (plan.Claim block) outcome is reply written = tt
-io_by_reply asked snap plan.NoMemory outcome is reply written = tt
+io_by_reply asked snap (plan.NoMemory error) outcome is reply written = tt

@@ -41,13 +41,13 @@ pub is_new : (snap : Snap) (why : Suspend) → MaySuspend snap why → IsNew sna
 is_new snap (suspend.Need addr mode) may = may.0
 is_new snap (suspend.Claim block) may = may.0
 is_new snap suspend.Io may = tt
-is_new snap suspend.NoMemory may = tt
+is_new snap (suspend.NoMemory error) may = tt
 
 pub is_asked : (snap : Snap) (why : Suspend) → MaySuspend snap why → IsAsked snap why
 is_asked snap (suspend.Need addr mode) may = may.1
 is_asked snap (suspend.Claim block) may = may.1
 is_asked snap suspend.Io may = tt
-is_asked snap suspend.NoMemory may = tt
+is_asked snap (suspend.NoMemory error) may = tt
 
 pub none_stand : (snap : Snap) (why : Suspend)
     → ((blocks : Image) (tree : Tree) → IsOver snap blocks tree → IsResumable why) → NoneStand snap why
@@ -55,4 +55,4 @@ none_stand snap (suspend.Need addr mode) resumes = tt
 none_stand snap (suspend.Claim block) resumes = tt
 none_stand snap suspend.Io resumes = λ blocks tree holds saw.
     resumes blocks tree (record { holds = holds; saw = saw })
-none_stand snap suspend.NoMemory resumes = tt
+none_stand snap (suspend.NoMemory error) resumes = tt

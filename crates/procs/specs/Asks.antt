@@ -41,7 +41,7 @@ abbrev pub IsAsked : Snap → Suspend → Type 0
 IsAsked snap (suspend.Need addr mode) = Asks snap.geometry addr
 IsAsked snap (suspend.Claim block) = Claims snap.geometry block
 IsAsked snap suspend.Io = Unit {0}
-IsAsked snap suspend.NoMemory = Unit {0}
+IsAsked snap (suspend.NoMemory error) = Unit {0}
 
 -- the object has an address that was read, or is a whole block that was claimed
 abbrev pub IsWritable : Snap → ObjectBytes → Type 0

@@ -20,18 +20,18 @@ IsPlanFor snap (plan.Need addr mode) = (is_had addr mode snap.objects.items snap
     × Asks snap.geometry addr
 IsPlanFor snap (plan.Claim block) = (is_claimed block snap.claims.items ≡ false) × Claims snap.geometry block
 IsPlanFor snap (plan.Done done) = EndsFrom snap done × ChangesFew CHANGED_BLOCKS done
-IsPlanFor snap plan.NoMemory = Unit {0}
+IsPlanFor snap (plan.NoMemory error) = Unit {0}
 
 -- a plan is done only with what was worked out for this call
 abbrev pub IsPlanOf : Ctx → Call → Plan → Type 0
 IsPlanOf ctx call (plan.Done done) = IsMadeFor ctx call done
 IsPlanOf ctx call (plan.Need addr mode) = Unit {0}
 IsPlanOf ctx call (plan.Claim block) = Unit {0}
-IsPlanOf ctx call plan.NoMemory = Unit {0}
+IsPlanOf ctx call (plan.NoMemory error) = Unit {0}
 
 -- a plan is done only with what is a step
 abbrev pub IsStepPlan : Geometry → Ctx → Call → Plan → Type 0
 IsStepPlan g ctx call (plan.Done done) = IsStepOf g ctx call done
 IsStepPlan g ctx call (plan.Need addr mode) = Unit {0}
 IsStepPlan g ctx call (plan.Claim block) = Unit {0}
-IsStepPlan g ctx call plan.NoMemory = Unit {0}
+IsStepPlan g ctx call (plan.NoMemory error) = Unit {0}

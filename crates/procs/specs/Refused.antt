@@ -70,11 +70,11 @@ IsIoWhereRefused call snap (plan.Done done) = (blocks : Image) → Saw blocks sn
     → (done.reply ≡ refused Io call) × (done.written ≡ [])
 IsIoWhereRefused call snap (plan.Need addr mode) = Unit {0}
 IsIoWhereRefused call snap (plan.Claim block) = Unit {0}
-IsIoWhereRefused call snap plan.NoMemory = Unit {0}
+IsIoWhereRefused call snap (plan.NoMemory error) = Unit {0}
 
 -- a plan is done with this
 abbrev pub IsDoneWith : Outcome → Plan → Type 0
 IsDoneWith outcome (plan.Done done) = done ≡ outcome
 IsDoneWith outcome (plan.Need addr mode) = ⊥
 IsDoneWith outcome (plan.Claim block) = ⊥
-IsDoneWith outcome plan.NoMemory = ⊥
+IsDoneWith outcome (plan.NoMemory error) = ⊥

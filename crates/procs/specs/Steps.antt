@@ -27,6 +27,6 @@ IsStepOf g ctx call done = (blocks : Image) (tree : Tree) → SoundCall ctx.cred
 abbrev pub NoneStandFor : Ctx → Call → Snap → Suspend → Type 0
 NoneStandFor ctx call snap suspend.Io = (blocks : Image) (tree : Tree)
     → SoundCall ctx.credential ctx.moment call → Stands snap.geometry blocks tree → Saw blocks snap → ⊥
-NoneStandFor ctx call snap suspend.NoMemory = Unit {0}
+NoneStandFor ctx call snap (suspend.NoMemory error) = Unit {0}
 NoneStandFor ctx call snap (suspend.Need addr mode) = Unit {0}
 NoneStandFor ctx call snap (suspend.Claim block) = Unit {0}

@@ -1,6 +1,6 @@
 //! What a call asks for behind a run that stopped, without another. These are positions, of which nothing is claimed:
 //! the procedure is run again once all of it was read.
-ghost use Rattle.std.specs.Prelude.{◌≡◌, ◌≤◌, IfErr, IfSome};
+ghost use Rattle.std.specs.Prelude.{◌≡◌, ◌≤◌, IfErr, IfSome, alloc_error};
 ghost use Rattle.inode.specs.declared.suspend.Suspend.TheVariants.{NoMemory};
 ghost use Rattle.base.specs.declared.TheConstants.{FILE_INDEXES};
 ghost use Rattle.inode.specs.Over.{MaySuspend};
@@ -209,11 +209,11 @@ impl Ahead {
 
 // A position, in a box.
 fn boxed<T: Drop>(alloc: Global, position: T) -> Result<Box<T>, Suspend>
-    ensures { IfErr result (λ why. why ≡ NoMemory) }
+    ensures { IfErr result (λ why. why ≡ NoMemory alloc_error) }
 {
     match Box::new(alloc, position) {
         Ok(boxed) => Ok(boxed),
-        Err(_) => Err(Suspend::NoMemory),
+        Err(failed) => Err(Suspend::NoMemory(AllocError::from(failed))),
     }
 }
 
@@ -310,7 +310,7 @@ pub(crate) fn entering(
 
 /// What the blocks ask for that a file frees, if it does.
 pub(crate) fn freed(alloc: Global, freeing: Option<Freeing>) -> Result<Ahead, Suspend>
-    ensures { IfErr result (λ why. why ≡ NoMemory) }
+    ensures { IfErr result (λ why. why ≡ NoMemory alloc_error) }
 {
     match freeing {
         Some(freeing) => Ok(Ahead::Freeing(boxed(alloc, freeing)?)),

@@ -129,8 +129,9 @@ impl Planner {
         ensures snap { self.new.snap ≡ self.old.snap }
         ensures of { AreOf call.now self.old.names → AreOf call.now self.new.names }
     {
-        let Some(mut names) = names_of(alloc, call, self.names.take()) else {
-            return Plan::NoMemory;
+        let mut names = match names_of(alloc, call, self.names.take()) {
+            Ok(names) => names,
+            Err(error) => return Plan::NoMemory(error),
         };
         let next = self.next_by(alloc, ctx, call, &mut names);
         self.names = Some(names);

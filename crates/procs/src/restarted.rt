@@ -1,5 +1,5 @@
 //! What a planner goes by beside a run, and a plan that is restarted.
-ghost use Rattle.std.specs.Prelude.{◌≡◌, true};
+ghost use Rattle.std.specs.Prelude.{◌≡◌, true, IfOk, Some};
 ghost use Rattle.nfs_spec.specs.Model.Calls.{begins_transaction};
 ghost use Rattle.inode.specs.declared.snap.Snap.{Snap};
 ghost use Rattle.procs.specs.Planned.{IsPlanFor, IsPlanOf, IsStepPlan};
@@ -12,18 +12,22 @@ use crate::work::run;
 use dir::Names;
 use inode::{Snap, Suspend};
 use nfs_types::{Call, Ctx};
-use std::alloc::Global;
+use std::alloc::{AllocError, Global};
 
 /// The names of a call, unless it was begun to look for them before.
-pub(crate) fn names_of(alloc: Global, call: &Call, names: Option<Names>) -> Option<Names>
-    ensures known { (snap : Snap) → IsKnownBy snap names → IsKnownBy snap result }
-    ensures of { AreOf call.now names → AreOf call.now result }
+pub(crate) fn names_of(
+    alloc: Global,
+    call: &Call,
+    names: Option<Names>,
+) -> Result<Names, AllocError>
+    ensures known { IfOk result (λ known. (snap : Snap) → IsKnownBy snap names → IsKnownBy snap (Some known)) }
+    ensures of { IfOk result (λ known. AreOf call.now names → AreOf call.now (Some known)) }
 {
     match names {
-        Some(names) => Some(names),
+        Some(names) => Ok(names),
         None => match Names::begin(alloc, call) {
-            Ok(names) => Some(names),
-            Err(_) => None,
+            Ok(names) => Ok(names),
+            Err(error) => Err(error),
         },
     }
 }
@@ -47,8 +51,9 @@ pub fn plan(alloc: Global, ctx: &Ctx, call: &Call, snap: &Snap) -> Plan
     ensures step { IsStepPlan snap.now.geometry ctx.now call.now result }
     ensures io { IsIoWhereRefused call.now snap.now result }
 {
-    let Ok(mut names) = Names::begin(alloc, call) else {
-        return Plan::NoMemory;
+    let mut names = match Names::begin(alloc, call) {
+        Ok(names) => names,
+        Err(error) => return Plan::NoMemory(error),
     };
     let _ = names.go_on(snap);
     run(alloc, ctx, call, snap, &names)

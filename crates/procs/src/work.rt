@@ -183,7 +183,7 @@ pub(crate) fn run(alloc: Global, ctx: &Ctx, call: &Call, snap: &Snap, names: &Na
         Ok(done) => finish(ctx, call, snap, done),
         Err(Suspend::Need(addr, mode)) => Plan::Need(addr, mode),
         Err(Suspend::Claim(block)) => Plan::Claim(block),
-        Err(Suspend::NoMemory) => Plan::NoMemory,
+        Err(Suspend::NoMemory(error)) => Plan::NoMemory(error),
         Err(Suspend::Io) => match read_only_plan(
             alloc,
             ctx,
@@ -192,7 +192,7 @@ pub(crate) fn run(alloc: Global, ctx: &Ctx, call: &Call, snap: &Snap, names: &Na
             refused_reply(call, Status::Io),
         ) {
             Ok(done) => finish(ctx, call, snap, done),
-            Err(_) => Plan::NoMemory,
+            Err(error) => Plan::NoMemory(error),
         },
     }
 }

@@ -28,7 +28,7 @@ pub may_suspend : (snap : Snap) (why : Suspend) → IsNew snap why → IsAskedOb
 may_suspend snap (suspend.Need addr mode) new asked = (new, asked)
 may_suspend snap (suspend.Claim block) new asked = absurd asked
 may_suspend snap suspend.Io new asked = tt
-may_suspend snap suspend.NoMemory new asked = tt
+may_suspend snap (suspend.NoMemory error) new asked = tt
 
 -- the file of an inode
 pub is_file : (snap : Snap) (blocks : Image) (tree : Tree) (number used : ℕ) (inode : Inode)

@@ -17,7 +17,7 @@ use Rattle.rpc.specs.declared.refusal.Refusal.TheVariants.{SystemError}
 use Rattle.rpc.specs.Refused.{refused}
 use Rattle.rpc.proofs.CutsOff.{cut_feed, cut_next}
 use Rattle.rpc.proofs.Lengths.{refused-length}
-use Rattle.session_wire.specs.Judging.{judged, Judges}
+use Rattle.session_wire.specs.Judging.{IsCallOf, judged}
 use Rattle.session_wire.specs.declared.message.Judged.{Judged}
 use Rattle.session_wire.specs.declared.message.Judged.TheVariants as verdicts
 use Rattle.session_wire.specs.declared.message.ReplyBody.{ReplyBody}
@@ -26,7 +26,7 @@ use Rattle.session_wire.specs.Replies.{body_too_long, reply_bytes, IsTooLong as 
 use Rattle.store_images.specs.Opening.{Opened}
 use Rattle.session.specs.declared.stream.SessionFault.{SessionFault}
 use Rattle.session.specs.declared.stream.SessionFault.TheVariants as faults
-use Rattle.session.specs.Replying.{IsMessageAnswered, IsCallAnswered, IsSpelled}
+use Rattle.session.specs.Replying.{HasLacked, IsCallAnswered, IsMessageAnswered, IsSpelled}
 use Rattle.session.specs.Streaming.{Answered, IsCourse, IsUnfinished, IsUntouched, IsCutShort, StopsAt}
 use Rattle.session.specs.Streaming.{EndsAt, HasReplied, IsCutOff, Delivers, Serves, IsStream, text_of}
 use Rattle.session.specs.Writing.{AreAllSent, AreSent, Calls, Tells, OutputState}
@@ -248,34 +248,32 @@ has_spelling xid body =
 
 -- ---- what a message is taken for
 
-refusal_fits : (xid : ℕ) (refusal : Refusal) (bytes : List ℕ) → IsSpelled xid (bodies.Refused refusal) bytes
+pub refusal_fits : (xid : ℕ) (refusal : Refusal) (bytes : List ℕ) → IsSpelled xid (bodies.Refused refusal) bytes
     → bytes ≡ refused xid refusal
 refusal_fits xid refusal bytes (inl e) = e.0
 refusal_fits xid refusal bytes (inr (inl spelled, e)) = absurd (cc spelled)
 refusal_fits xid refusal bytes (inr (inr long, e)) = absurd (omega (arith, long, refused-length xid refusal))
 
 pub judged_refused : (K : Type 0) (moment : Moment) (old : Opened) (j : Judged) (xid : ℕ) (refusal : Refusal)
-    (bytes : List ℕ) → Judges (verdicts.Refused xid refusal) j → IsSpelled xid (bodies.Refused refusal) bytes
+    (bytes : List ℕ) → verdicts.Refused xid refusal ≡ j → IsSpelled xid (bodies.Refused refusal) bytes
     → IsMessageAnswered K moment old j bytes old
-judged_refused K moment old verdicts.Closed xid refusal bytes is spelled = absurd cc
-judged_refused K moment old (verdicts.Refused x r) xid refusal bytes is spelled =
-    subst (λ (j : Judged). IsMessageAnswered K moment old j bytes old)
+judged_refused K moment old j xid refusal bytes is spelled =
+    subst (λ (told : Judged). IsMessageAnswered K moment old told bytes old)
     is (refusal_fits xid refusal bytes spelled, refl)
-judged_refused K moment old (verdicts.Call x caller call) xid refusal bytes (inl is) spelled = absurd cc
-judged_refused K moment old (verdicts.Call x caller call) xid refusal bytes (inr is) spelled =
-    let number : xid ≡ x = cc is in
-    let error : refusal ≡ SystemError = cc is in
-    inr (refusal_fits xid refusal bytes spelled ∙ cc (number, error), refl)
+
+pub judged_lacking : (K : Type 0) (moment : Moment) (old new : Opened) (j : Judged) (xid : ℕ) (bytes : List ℕ)
+    → IsCallOf xid j → HasLacked old xid bytes new → IsMessageAnswered K moment old j bytes new
+judged_lacking K moment old new verdicts.Closed xid bytes is lacked = absurd is
+judged_lacking K moment old new (verdicts.Refused x refusal) xid bytes is lacked = absurd is
+judged_lacking K moment old new (verdicts.Call x caller call) xid bytes is lacked =
+    inr (lacked.0 ∙ ap (λ number. refused number SystemError) is, lacked.1)
 
 pub judged_call : (K : Type 0) (moment : Moment) (old new : Opened) (j : Judged) (xid : ℕ)
     (credential : Credential) (call : ProgramCall) (bytes : List ℕ)
-    → Judges (verdicts.Call xid credential call) j
+    → verdicts.Call xid credential call ≡ j
     → IsCallAnswered K moment old xid credential call bytes new → IsMessageAnswered K moment old j bytes new
-judged_call K moment old new verdicts.Closed xid credential call bytes is answered = absurd cc
-judged_call K moment old new (verdicts.Refused x r) xid credential call bytes is answered = absurd cc
-judged_call K moment old new (verdicts.Call x caller c) xid credential call bytes (inl is) answered =
-    subst (λ (j : Judged). IsMessageAnswered K moment old j bytes new) is (inl answered)
-judged_call K moment old new (verdicts.Call x caller c) xid credential call bytes (inr is) answered = absurd cc
+judged_call K moment old new j xid credential call bytes is answered =
+    subst (λ (told : Judged). IsMessageAnswered K moment old told bytes new) is (inl answered)
 
 -- ---- where the records stop
 

@@ -11,7 +11,9 @@ use Rattle.nfs_spec.specs.Model.Entry.{Entry}
 use Rattle.nfs_spec.specs.Model.Sound.{Sound, SoundTime}
 use Rattle.nfs_spec.specs.Model.Tree.{Tree}
 use Rattle.nfs_types.specs.declared.ctx.Ctx.{Ctx}
+use Rattle.nfs_types.specs.declared.ctx.Credential.{Credential}
 use Rattle.nfs_types.specs.declared.ctx.Moment.{Moment}
+use Rattle.nfs_types.specs.declared.mount.MountCall.{MountCall}
 use Rattle.nfs_types.specs.declared.program.ProgramCall.TheVariants as calls
 use Rattle.session_wire.specs.declared.message.Judged.{Judged}
 use Rattle.session_wire.specs.declared.message.Judged.TheVariants as verdicts
@@ -36,7 +38,8 @@ use Rattle.session.specs.declared.stream.SessionFault.TheVariants as faults
 use Rattle.session.specs.Filing.{AreFiled, Files, HasFiled, IsFiled, IsOpenFor, IsServed, IsSettledBehind}
 use Rattle.session.specs.Filing.{NumbersRise}
 use Rattle.session.specs.Filing.{filed, outset_of}
-use Rattle.session.specs.Replying.{IsMessageAnswered}
+use Rattle.session.specs.Replying.{HasLacked, IsMessageAnswered, lacking}
+use Rattle.session.proofs.LackingStores.{open_lacking}
 use Rattle.session.specs.Writing.{OutputState}
 use Rattle.session.specs.Streaming.{Answered, IsStream}
 use Rattle.session.proofs.Counted.{added_along, counted}
@@ -140,11 +143,52 @@ untouched stops moment old files j bytes opened is = record {
   during = stops_there stops old files opened;
 }
 
+-- memory was refused once more
+lacks_there : (old : Opened) → GoesTo old (lacking old)
+lacks_there old = record {
+  past = past_none old.device;
+  failures = omega arith;
+  further = record {
+    begun = omega arith;
+    refused = omega arith;
+    places = omega arith;
+    positions = omega arith;
+    settled = omega arith;
+    broken = λ broken. broken;
+  };
+  failed = λ broken. inl broken;
+}
+
+counted_there : LeavesFiles → (moment : Moment) (old : Opened) (files : Files) (j : Judged) (bytes : List ℕ)
+    → IsOpenFor old files → ((settled : ℕ) → IsFiled settled moment old files j bytes (lacking old) files)
+    → FilesOne moment old files j bytes (lacking old)
+counted_there stops moment old files j bytes opened is = record {
+  later = files;
+  is = λ settled few. is settled;
+  goes = lacks_there old;
+  opened = open_lacking old files opened;
+  first = refl;
+  made = [];
+  grown = sym (append-nil files.entries);
+  numbers = omega arith;
+  boot = refl;
+  past = past_none old.device;
+  during = stops_there stops old files opened;
+}
+
 -- the tree of an open store is sound
 sound_last : (old : Opened) (files : Files) → IsOpenFor old files → Sound files.last
 sound_last old files opened =
     (stands_now opened.base old.device old.core idle idle old.boot files.first files.last files.entries
     opened.opened.since).parts.sound
+
+lacked_mount : LeavesFiles → (moment : Moment) (old : Opened) (files : Files) (xid : ℕ) (credential : Credential)
+    (call : MountCall) (bytes : List ℕ) (new : Opened) → IsOpenFor old files → HasLacked old xid bytes new
+    → FilesOne moment old files (verdicts.Call xid credential (calls.Mount call)) bytes new
+lacked_mount stops moment old files xid credential call bytes new opened a =
+    subst (λ (x : Opened). FilesOne moment old files (verdicts.Call xid credential (calls.Mount call)) bytes x)
+    (sym a.1) (counted_there stops moment old files (verdicts.Call xid credential (calls.Mount call)) bytes opened
+    (λ settled. (inr (a.0, refl), refl)))
 
 one : LeavesFiles → (K : Type 0) (moment : Moment) (old : Opened) (files : Files) (j : Judged) (bytes : List ℕ)
     (new : Opened) → K → SoundTime moment → IsOpenFor old files → IsMessageAnswered K moment old j bytes new
@@ -181,18 +225,17 @@ one stops K moment old files (verdicts.Call xid credential (calls.Nfs call)) byt
     opened (inr a) =
     subst (λ (x : Opened). FilesOne moment old files (verdicts.Call xid credential (calls.Nfs call))
     bytes x) (sym a.1)
-    (untouched stops moment old files (verdicts.Call xid credential (calls.Nfs call)) bytes opened
+    (counted_there stops moment old files (verdicts.Call xid credential (calls.Nfs call)) bytes opened
     (λ settled. inr (a.0, refl, refl)))
 one stops K moment old files (verdicts.Call xid credential (calls.Mount call)) bytes new preserves timely
-    opened (inl a) =
+    opened (inl (inl a)) =
     subst (λ (x : Opened). FilesOne moment old files (verdicts.Call xid credential (calls.Mount call)) bytes x)
     (sym a.0) (untouched stops moment old files (verdicts.Call xid credential (calls.Mount call)) bytes opened
-    (λ settled. (refl, refl)))
+    (λ settled. (inl refl, refl)))
 one stops K moment old files (verdicts.Call xid credential (calls.Mount call)) bytes new preserves timely
-    opened (inr a) =
-    subst (λ (x : Opened). FilesOne moment old files (verdicts.Call xid credential (calls.Mount call)) bytes x)
-    (sym a.1) (untouched stops moment old files (verdicts.Call xid credential (calls.Mount call)) bytes opened
-    (λ settled. (refl, refl)))
+    opened (inl (inr a)) = lacked_mount stops moment old files xid credential call bytes new opened a
+one stops K moment old files (verdicts.Call xid credential (calls.Mount call)) bytes new preserves timely
+    opened (inr a) = lacked_mount stops moment old files xid credential call bytes new opened a
 
 -- ---- one after another
 

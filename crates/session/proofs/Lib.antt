@@ -9,3 +9,4 @@ pub mod ShortMade
 pub mod ShortReplies
 pub mod Taken
 pub mod ServedFiles
+pub mod LackingStores

@@ -1,5 +1,5 @@
 -- What a stream made of the files is what the served stream admits, message by message.
-use Rattle.std.proofs.Common.{arith, ◌≡◌, ◌∙◌, refl, sym, ap, subst, ℕ, zero, suc, ◌+◌, ◌-◌, ◌^◌, ◌<◌, ◌≤◌}
+use Rattle.std.proofs.Common.{arith, ◌≡◌, ◌∙◌, refl, sym, ap, subst, ℕ, zero, suc, ◌+◌, ◌-◌, ◌^◌, ◌<◌, ◌≤◌, alloc_error}
 use Rattle.std.proofs.Common.{◌⊎◌, inl, inr}
 use Rattle.std.proofs.Common.{Bool, true, false, if◌then◌else◌, List, [], ◌∷◌, length, Option, Some, None}
 use Rattle.std.proofs.lemmas.Bool.{cases_Bool, cases_lt, true≢false}
@@ -40,7 +40,8 @@ use Rattle.store_images.specs.Settling.{HasBroken, HasFailed, HasLost}
 use Rattle.store.specs.Calling as store
 use Rattle.session.specs.Filing.{AreAnswered, AreCounted, AreFiled, Files, IsFiled, IsOpenFor, added_by, filed}
 use Rattle.session.specs.Filing.{outset_of}
-use Rattle.session.specs.Replying.{IsMessageAnswered, IsMountReply, IsSystemError}
+use Rattle.session.specs.Replying.{HasLacked, IsMessageAnswered, IsMounted, IsSystemError, lacking}
+use Rattle.session.proofs.LackingStores.{open_lacking}
 use Rattle.session.specs.Serving.{reply_for}
 use Rattle.session.specs.Standing.{serving_of, standing_of}
 use Rattle.session.specs.Streaming.{Answered}
@@ -99,6 +100,19 @@ same_standing : (old new : Opened) (files later : Files) → new ≡ old → lat
 same_standing old new files later same as_files = ap (λ (at : Opened). standing_of at later.last) same
     ∙ ap (λ (fs : Files). standing_of old fs.last) as_files
 
+-- the same of one to which memory was refused
+lacked_standing : (old new : Opened) (files later : Files) → new ≡ lacking old → later ≡ files
+    → standing_of new later.last ≡ standing_of old files.last
+lacked_standing old new files later lacked as_files = ap (λ (at : Opened). standing_of at later.last) lacked
+    ∙ ap (λ (fs : Files). standing_of old fs.last) as_files
+
+mounted_standing : (old new : Opened) (files later : Files) (xid : ℕ) (bytes : List ℕ)
+    → (new ≡ old) ⊎ HasLacked old xid bytes new → later ≡ files
+    → standing_of new later.last ≡ standing_of old files.last
+mounted_standing old new files later xid bytes (inl same) as_files = same_standing old new files later same as_files
+mounted_standing old new files later xid bytes (inr lacked) as_files =
+    lacked_standing old new files later lacked.1 as_files
+
 -- what a message left of the store and its files
 pub record Leaves (old : Opened) (new : Opened) (later : Files) : Type 0 where
   pub is_open : IsOpenFor new later
@@ -113,6 +127,17 @@ nothing_left old files is_open new later same as_files =
     (subst (λ (fs : Files). Leaves old old fs) (sym as_files)
     (record { is_open = is_open; boot = refl; past = past_none old.device; begun = omega arith }))
 
+lacking_left : (old : Opened) (files : Files) → IsOpenFor old files → (new : Opened) (later : Files) → new ≡ lacking old
+    → later ≡ files → Leaves old new later
+lacking_left old files is_open new later lacked as_files =
+    subst (λ (at : Opened). Leaves old at later) (sym lacked)
+    (subst (λ (fs : Files). Leaves old (lacking old) fs) (sym as_files) (record {
+      is_open = open_lacking old files is_open;
+      boot = refl;
+      past = past_none old.device;
+      begun = omega arith;
+    }))
+
 pub leaves : (settled : ℕ) (moment : Moment) (old : Opened) (files : Files) (j : Judged) (bytes : List ℕ)
     (new : Opened)
     (later : Files) → IsOpenFor old files → IsFiled settled moment old files j bytes new later
@@ -121,11 +146,14 @@ leaves settled moment old files Closed bytes new later is_open filed = absurd fi
 leaves settled moment old files (Refused xid refused) bytes new later is_open (same, as_files) =
     nothing_left old files is_open new later same as_files
 leaves settled moment old files (Call xid credential (calls.Mount asked)) bytes new later is_open
-    (same, as_files) =
+    (inl same, as_files) =
     nothing_left old files is_open new later same as_files
+leaves settled moment old files (Call xid credential (calls.Mount asked)) bytes new later is_open
+    (inr lacked, as_files) =
+    lacking_left old files is_open new later lacked.1 as_files
 leaves settled moment old files (Call xid credential (calls.Nfs asked)) bytes new later is_open
-    (inr (error, same, as_files)) =
-    nothing_left old files is_open new later same as_files
+    (inr (error, lacked, as_files)) =
+    lacking_left old files is_open new later lacked as_files
 leaves settled moment old files (Call xid credential (calls.Nfs asked)) bytes new later is_open
     (inl (verdict, has, is, spelled, by)) = subst (λ (fs : Files). Leaves old new fs) (sym is)
     (record {
@@ -336,8 +364,8 @@ module _ (boot : ℕ) (moment : Moment) (end : Device) (added : ℕ → ℕ) whe
         wire.Failed at (has_failed old new files later past same because) (reply_spelled_as (refusal asked cause.Io) is)
     refused_so cause.Spent later past same is count because counts at =
         wire.Spent at (spent count because later counts) (reply_spelled_as (refusal asked cause.Spent) is)
-    refused_so cause.NoMemory later past same is count because counts at =
-        wire.NoMemory at (reply_spelled_as (refusal asked cause.NoMemory) is)
+    refused_so (cause.NoMemory error) later past same is count because counts at =
+        wire.NoMemory at (reply_spelled_as (refusal asked (cause.NoMemory alloc_error)) is)
 
     by_rules : (rules : Bool) (later : Files) → begins_transaction asked ≡ rules
         → wire.IsNfsReply s (standing_of old files.last) rules xid credential asked bytes
@@ -384,11 +412,11 @@ module _ (boot : ℕ) (moment : Moment) (end : Device) (added : ℕ → ℕ) whe
   no_memory true at files xid credential asked bytes is = wire.NoMemory (rests at files).stays is
   no_memory false at files xid credential asked bytes is = (rests at files, inr is)
 
-  plain_mount : (xid : ℕ) (asked : MountCall) (bytes : List ℕ) → IsMountReply xid asked bytes
+  plain_mount : (one other : Opened) (xid : ℕ) (asked : MountCall) (bytes : List ℕ) → IsMounted one xid asked bytes other
       → wire.IsPlain xid (calls.Mount asked) bytes
-  plain_mount xid asked bytes (inl (inl spelled)) = inl spelled.0
-  plain_mount xid asked bytes (inl (inr long)) = inr long.1
-  plain_mount xid asked bytes (inr error) = inr error
+  plain_mount one other xid asked bytes (inl (same, inl spelled)) = inl spelled.0
+  plain_mount one other xid asked bytes (inl (same, inr long)) = inr long.1
+  plain_mount one other xid asked bytes (inr lacked) = inr lacked.0
 
   -- ---- one message
 
@@ -409,17 +437,17 @@ module _ (boot : ℕ) (moment : Moment) (end : Device) (added : ℕ → ℕ) whe
   one_message K settled old files (Call xid credential (calls.Mount asked)) bytes new later one other
       is is_open same
       (inl answered) (at, fs) counts = (
-        same_standing old new files later at fs,
-        plain_mount xid asked bytes answered.1,
+        mounted_standing old new files later xid bytes at fs,
+        plain_mount one other xid asked bytes answered,
       )
   one_message K settled old files (Call xid credential (calls.Mount asked)) bytes new later one other
-      is is_open same (inr error) (at, fs) counts = (same_standing old new files later at fs, inr error.0)
+      is is_open same (inr lacked) (at, fs) counts = (mounted_standing old new files later xid bytes at fs, inr lacked.0)
   one_message K settled old files (Call xid credential (calls.Nfs asked)) bytes new later one other
       is is_open same
       answered (inr (error, at, fs)) counts =
       subst (λ (to : wire.Standing). wire.IsNfsReply s (standing_of old files.last) (begins_transaction asked) xid
       credential asked
-      bytes to) (sym (same_standing old new files later at fs))
+      bytes to) (sym (lacked_standing old new files later at fs))
       (no_memory (begins_transaction asked) old files xid credential asked bytes error)
   one_message K settled old files (Call xid credential (calls.Nfs asked)) bytes new later one other
       is is_open same

@@ -53,11 +53,12 @@ use Rattle.nfs_results.specs.Results.{nfs_result_bytes, nfs_too_long}
 use Rattle.nfs_results.specs.Results.{get_attr, set_attr, lookup, access, read_link, read, write, create, remove}
 use Rattle.nfs_results.specs.Results.{rename, link, read_dir, read_dir_plus, fs_stat, fs_info, path_conf, commit}
 use Rattle.nfs_results.specs.Results.{created, info, limits, listed, listed_plus, lookup_result, read_bytes, space, written}
-use Rattle.rpc.proofs.Lengths.{word-length, accepted-length, refused-length}
+use Rattle.rpc.proofs.Lengths.{word-length, accepted-length}
 use Rattle.rpc.specs.Refused.{accepted, refused}
 use Rattle.rpc.specs.declared.refusal.Refusal.TheVariants.{SystemError}
 use Rattle.session_wire.specs.declared.message.ReplyBody.TheVariants as bodies
 use Rattle.session_wire.specs.Replies.{IsTooLong, reply_bytes}
+use Rattle.session_wire.proofs.ShortRefusals.{not_long_refusal}
 use Rattle.store_promise.specs.Verdicts.{refusal}
 use Rattle.store_promise.specs.declared.answers.Verdict.{Verdict}
 use Rattle.store_promise.specs.declared.events.Cause.{Cause}
@@ -429,10 +430,6 @@ not_long xid reply few (inr many) =
     let short = few.short in
     omega (arith, many, short, accepted-length xid 0, length-append (accepted xid 0) (nfs_result_bytes reply))
 
-not_long_refused : (xid : ℕ) → IsTooLong xid (bodies.Refused SystemError) → ⊥
-not_long_refused xid (inl long) = true≢false (sym long)
-not_long_refused xid (inr many) = let few = refused-length xid SystemError in omega (arith, many, few)
-
 -- so it isn't too long, whatever a procedure came to
 abbrev IsFine : ℕ → Verdict → Type 0
 IsFine xid given_verdict = IsTooLong xid (reply_for given_verdict) → ⊥
@@ -441,7 +438,7 @@ fine_refusal : (xid : ℕ) (c : types.Call) (why : Cause) → IsFine xid (refusa
 fine_refusal xid c cause.Io = not_long xid (refused_reply status.Io c) (refused_is_short status.Io c)
 fine_refusal xid c cause.Spent = not_long xid (refused_reply status.ServerFault c)
     (refused_is_short status.ServerFault c)
-fine_refusal xid c cause.NoMemory = not_long_refused xid
+fine_refusal xid c (cause.NoMemory error) = not_long_refusal xid SystemError
 
 pub never_too_long : (xid : ℕ) (o : Outset) (entry : Option Entry) (last : Tree) (given_verdict : Verdict) (now : Opened)
     → Sound o.last → ComesTo o now entry last → Tells o entry given_verdict now → IsTooLong xid (reply_for given_verdict) → ⊥

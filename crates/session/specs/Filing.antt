@@ -28,7 +28,7 @@ use Rattle.store_images.specs.Opening.{IsSettled, Opened}
 use Rattle.session.specs.declared.stream.SessionFault.{SessionFault}
 use Rattle.session.specs.declared.stream.SessionFault.TheVariants.{Record, Input, Output, NoMemory, Truncated}
 use Rattle.session.specs.declared.stream.SessionFault.TheVariants.{Device}
-use Rattle.session.specs.Replying.{IsSystemError}
+use Rattle.session.specs.Replying.{HasLacked, IsSystemError, lacking}
 use Rattle.session.specs.Serving.{reply_for}
 use Rattle.session.specs.Standing.{serving_of, standing_of}
 use Rattle.session.specs.Streaming.{IsStream}
@@ -68,16 +68,17 @@ IsSettledBy settled o given_verdict now has = (entry : Entry) → has.entry ≡ 
 -- a step of the sequential server from the files as they were, and its reply is what is answered, once its
 -- place is settled where the call waits for that; or the answer says why there is none, or why it isn't that
 -- reply. The answer is spelled whole, as none is too long for a record. Each stop on the way leaves the files
--- after a beginning of the entries, in which is each place that was settled before the message. A call for
--- which memory was refused before, and each other message, leaves the store and its files.
+-- after a beginning of the entries, in which is each place that was settled before the message. Each other message
+-- leaves the store and its files; but where memory was refused to a call before it came to its procedure, which is told,
+-- the store has counted it.
 abbrev pub IsFiled : ℕ → Moment → Opened → Files → Judged → List ℕ → Opened → Files → Type 0
 IsFiled settled moment old files (Call xid credential (calls.Nfs call)) bytes new later = ((verdict : Verdict)
     × (has : HasAnswered (outset_of moment old files credential call) verdict new)
     × (later ≡ filed files has.entry has.last) × (bytes ≡ reply_bytes xid (reply_for verdict))
     × IsSettledBy settled (outset_of moment old files credential call) verdict new has)
-    ⊎ (IsSystemError xid bytes × (new ≡ old) × (later ≡ files))
+    ⊎ (IsSystemError xid bytes × (new ≡ lacking old) × (later ≡ files))
 IsFiled settled moment old files (Call xid credential (calls.Mount call)) bytes new later =
-    (new ≡ old) × (later ≡ files)
+    ((new ≡ old) ⊎ HasLacked old xid bytes new) × (later ≡ files)
 IsFiled settled moment old files (Refused xid refusal) bytes new later = (new ≡ old) × (later ≡ files)
 IsFiled settled moment old files Closed bytes new later = ⊥
 

@@ -18,6 +18,7 @@ use Rattle.session_wire.specs.declared.message.ReplyBody.TheVariants as bodies
 use Rattle.session_wire.specs.Replies.{reply_bytes, IsTooLong}
 use Rattle.store.specs.Calling.{Answers, asked_of}
 use Rattle.store_images.specs.Opening.{Opened}
+use Rattle.txn_law.specs.Core.{with_refused}
 use Rattle.store_images.specs.Settling.{IsIdle}
 use Rattle.store_promise.specs.Progress.{Job}
 use Rattle.procs.specs.SoundCalls.{SoundCall}
@@ -48,24 +49,31 @@ pub record IsProcedure (keeps_model : Type 0) (old : Opened) (asked : Job) (verd
 abbrev pub IsSystemError : ℕ → List ℕ → Type 0
 IsSystemError xid bytes = bytes ≡ refused xid SystemError
 
--- the reply of MOUNT; where memory was refused, a system error
-abbrev pub IsMountReply : ℕ → MountCall → List ℕ → Type 0
-IsMountReply xid call bytes = IsSpelled xid (bodies.Done (replies.Mount (mount_reply call))) bytes
-    ⊎ IsSystemError xid bytes
+-- the store to which memory was refused once more, as its core counts it
+abbrev pub lacking : Opened → Opened
+lacking old = record old { core = with_refused old.core }
 
--- a call of MOUNT touches no store
+-- A system error, as memory was refused to a message for which no transaction was begun: that is counted, and nothing else
+-- changes.
+abbrev pub HasLacked : Opened → ℕ → List ℕ → Opened → Type 0
+HasLacked old xid bytes new = IsSystemError xid bytes × (new ≡ lacking old)
+
+-- the reply of MOUNT, which touches no store; or memory was refused
+abbrev pub IsMounted : Opened → ℕ → MountCall → List ℕ → Opened → Type 0
+IsMounted old xid call bytes new = ((new ≡ old) × IsSpelled xid (bodies.Done (replies.Mount (mount_reply call))) bytes)
+    ⊎ HasLacked old xid bytes new
+
 abbrev pub IsCallAnswered : Type 0 → Moment → Opened → ℕ → Credential → ProgramCall → List ℕ → Opened → Type 0
 IsCallAnswered keeps_model moment old xid credential (calls.Nfs call) bytes new = (verdict : Verdict)
     × IsProcedure keeps_model old (asked_of credential moment call) verdict new
     × IsSpelled xid (reply_for verdict) bytes
-IsCallAnswered keeps_model moment old xid credential (calls.Mount call) bytes new = (new ≡ old)
-    × IsMountReply xid call bytes
+IsCallAnswered keeps_model moment old xid credential (calls.Mount call) bytes new = IsMounted old xid call bytes new
 
 -- What a message is answered, by what it is taken for. One on which the connection closes gets no reply. A
--- call for which memory was refused before it came to its procedure has a system error, and leaves the store.
+-- call to which memory was refused before it came to its procedure has a system error, and the store counts that.
 abbrev pub IsMessageAnswered : Type 0 → Moment → Opened → Judged → List ℕ → Opened → Type 0
 IsMessageAnswered keeps_model moment old Closed bytes new = ⊥
 IsMessageAnswered keeps_model moment old (Refused xid refusal) bytes new = (bytes ≡ refused xid refusal) × (new ≡ old)
 IsMessageAnswered keeps_model moment old (Call xid credential call) bytes new =
     IsCallAnswered keeps_model moment old xid credential call bytes new
-    ⊎ (IsSystemError xid bytes × (new ≡ old))
+    ⊎ HasLacked old xid bytes new

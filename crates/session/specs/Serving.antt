@@ -25,7 +25,7 @@ client_of unread written = record { unread = unread; written = written }
 -- (RFC 5531, section 9)
 abbrev pub reply_for : Verdict → ReplyBody
 reply_for (verdicts.Reply reply) = bodies.Done (replies.Nfs reply)
-reply_for verdicts.NoMemory = bodies.Refused refusals.SystemError
+reply_for (verdicts.NoMemory error) = bodies.Refused refusals.SystemError
 
 -- with an answer the input has ended and every change is settled
 abbrev pub IsEnded : Result ℕ SessionFault → Opened → Client → Type 0

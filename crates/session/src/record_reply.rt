@@ -4,7 +4,7 @@ ghost use Rattle.nfs_spec.specs.Model.Sound.{SoundTime};
 ghost use Rattle.store_images.specs.Opening.{store_of};
 ghost use Rattle.store_images.specs.Settling.{IsIdle};
 ghost use Rattle.session.specs.Serving.{reply_for};
-ghost use Rattle.session.specs.Replying.{IsCallAnswered, IsMountReply, TakesCall};
+ghost use Rattle.session.specs.Replying.{HasLacked, IsCallAnswered, IsMounted, TakesCall};
 ghost use Rattle.session.specs.Streaming.{Delivers, Serves};
 ghost use Rattle.session.specs.Writing.{output_state_of};
 ghost use Rattle.session_wire.specs.Replies.{body_of};
@@ -17,7 +17,7 @@ use disk::CrashDisk;
 use nfs_types::{Credential, Moment, MountCall, ProgramCall};
 use rpc::Refusal;
 use session_wire::{Judged, RpcReply, judge, mount_reply};
-use std::alloc::Global;
+use std::alloc::{AllocError, Global};
 use std::io::Write;
 use store::{Store, Verdict, procedure};
 
@@ -41,13 +41,18 @@ pub fn serve_record<D: CrashDisk, W: Write>(
 {
     are_bytes(message.as_slice());
     match judge(alloc, message) {
-        Judged::Closed => Err(SessionFault::Record),
-        Judged::Refused { xid, refusal } => put(alloc, writer, xid, RpcReply::Refused(refusal)),
-        Judged::Call {
-            xid,
-            credential,
-            call,
-        } => serve_call(alloc, store, xid, credential, call, writer, moment),
+        Err(lacking) => lack(alloc, store, lacking.xid, lacking.error, writer),
+        Ok(Judged::Closed) => Err(SessionFault::Record),
+        Ok(Judged::Refused { xid, refusal }) => {
+            put(alloc, writer, xid, RpcReply::Refused(refusal))
+        }
+        Ok(
+            Judged::Call {
+                xid,
+                credential,
+                call,
+            },
+        ) => serve_call(alloc, store, xid, credential, call, writer, moment),
     }
 }
 
@@ -84,19 +89,25 @@ fn serve_call<D: CrashDisk, W: Write>(
             drop(verdict);
             answered
         }
-        ProgramCall::Mount(call) => serve_mount(alloc, xid, &call, writer),
+        ProgramCall::Mount(call) => serve_mount(alloc, store, xid, &call, writer),
     }
 }
 
 // Answers one call of MOUNT.
-fn serve_mount<W: Write>(
+fn serve_mount<D: CrashDisk, W: Write>(
     alloc: Global,
+    store: &mut Store<D>,
     xid: u32,
     call: &MountCall,
     writer: &mut Output<W>,
 ) -> Result<(), SessionFault>
-    ensures { Delivers (λ reply. IsMountReply xid call.now reply) (output_state_of W.contents writer.old) result
-        (output_state_of W.contents writer.new) }
+    requires { IsIdle store.old.core }
+    ensures idle { IsIdle store.new.core }
+    ensures disk { store.new.disk ≡ store.old.disk }
+    ensures boot { store.new.boot ≡ store.old.boot }
+    ensures serves { Delivers (λ reply. IsMounted (store_of (D.device store.old.disk) store.old.core store.old.boot) xid
+        call.now reply (store_of (D.device store.new.disk) store.new.core store.new.boot))
+        (output_state_of W.contents writer.old) result (output_state_of W.contents writer.new) }
 {
     match mount_reply(alloc, call) {
         Ok(reply) => {
@@ -104,8 +115,28 @@ fn serve_mount<W: Write>(
             drop(reply);
             answered
         }
-        Err(_) => put(alloc, writer, xid, RpcReply::Refused(Refusal::SystemError)),
+        Err(error) => lack(alloc, store, xid, error, writer),
     }
+}
+
+// Answers a call to which memory was refused before it came to its procedure, and has the core count that.
+fn lack<D: CrashDisk, W: Write>(
+    alloc: Global,
+    store: &mut Store<D>,
+    xid: u32,
+    error: AllocError,
+    writer: &mut Output<W>,
+) -> Result<(), SessionFault>
+    requires { IsIdle store.old.core }
+    ensures idle { IsIdle store.new.core }
+    ensures disk { store.new.disk ≡ store.old.disk }
+    ensures boot { store.new.boot ≡ store.old.boot }
+    ensures lacked { Delivers (λ reply. HasLacked (store_of (D.device store.old.disk) store.old.core store.old.boot) xid
+        reply (store_of (D.device store.new.disk) store.new.core store.new.boot))
+        (output_state_of W.contents writer.old) result (output_state_of W.contents writer.new) }
+{
+    store.core.refuse(error);
+    put(alloc, writer, xid, RpcReply::Refused(Refusal::SystemError))
 }
 
 /// What a call is answered by what came of its procedure: its reply, or a system error where an allocation
@@ -115,6 +146,6 @@ pub fn reply_to(verdict: &Verdict) -> RpcReply<'_>
 {
     match verdict {
         Verdict::Reply(reply) => RpcReply::Nfs(reply),
-        Verdict::NoMemory => RpcReply::Refused(Refusal::SystemError),
+        Verdict::NoMemory(_) => RpcReply::Refused(Refusal::SystemError),
     }
 }

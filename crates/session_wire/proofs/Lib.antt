@@ -6,3 +6,4 @@ pub mod CallLaws
 pub mod ReplyLaws
 pub mod ServedStreams
 pub mod CountedReplies
+pub mod ShortRefusals

@@ -1,5 +1,5 @@
 -- What a record of bytes is taken for, test by test (RFC 5531, section 9).
-use Rattle.std.specs.Prelude.{◌≡◌, ◌≤◌, ◌-◌, ℕ, List, length, drop, Option, Some, None, Result, Ok, Err, ◌==◌, if◌then◌else◌, ◌⊎◌}
+use Rattle.std.specs.Prelude.{◌≡◌, ◌≤◌, ◌-◌, ℕ, List, length, drop, Option, Some, None, Result, Ok, Err, ◌==◌, if◌then◌else◌}
 use Rattle.nfs_types.specs.declared.ctx.Credential.{Credential}
 use Rattle.nfs_types.specs.declared.program.Program.{Program}
 use Rattle.nfs_types.specs.declared.program.ProgramCall.{ProgramCall}
@@ -9,9 +9,10 @@ use Rattle.rpc.specs.declared.header.Opening.{Opening}
 use Rattle.rpc.specs.declared.refusal.Refusal.{Refusal}
 use Rattle.rpc.specs.declared.refusal.Refusal.TheVariants.{RpcMismatch, ProgramUnavailable}
 use Rattle.rpc.specs.declared.refusal.Refusal.TheVariants.{ProgramMismatch, ProcedureUnavailable}
-use Rattle.rpc.specs.declared.refusal.Refusal.TheVariants.{GarbageArguments, SystemError}
+use Rattle.rpc.specs.declared.refusal.Refusal.TheVariants.{GarbageArguments}
 use Rattle.session_wire.specs.declared.message.Judged.{Judged}
 use Rattle.session_wire.specs.declared.message.Judged.TheVariants.{Closed, Refused, Call}
+use Rattle.session_wire.specs.declared.message.Lacking.{Lacking}
 use Rattle.xdr.specs.declared.fault.XdrFault.{XdrFault}
 use Rattle.rpc.specs.Headers.{opening_at, Heading, header_at}
 use Rattle.rpc.specs.Credentials.{credential_of}
@@ -62,7 +63,13 @@ AreLast bytes rest = (length rest ≤ length bytes) × (drop (length bytes - len
 abbrev pub judged : List ℕ → Judged
 judged bytes = on_opening (opening_at bytes)
 
--- the same, but that a call for which memory was refused has a system error
-abbrev pub Judges : Judged → Judged → Type 0
-Judges judged_verdict (Call xid credential call) = (judged_verdict ≡ Call xid credential call) ⊎ (judged_verdict ≡ Refused xid SystemError)
-Judges judged_verdict verdict = judged_verdict ≡ verdict
+-- it is a call of this number
+abbrev pub IsCallOf : ℕ → Judged → Type 0
+IsCallOf number (Call xid credential call) = number ≡ xid
+IsCallOf number (Refused xid refusal) = ⊥
+IsCallOf number Closed = ⊥
+
+-- what is told of a record: what it is, or that memory was refused to a call
+abbrev pub Judges : Result Judged Lacking → Judged → Type 0
+Judges (Ok told) verdict = told ≡ verdict
+Judges (Err lacking) verdict = IsCallOf lacking.xid verdict

@@ -1,10 +1,10 @@
 //! What a record of bytes is taken for: the tests of its header in their order, then its arguments.
-ghost use Rattle.std.specs.Prelude.{◌≡◌, ◌<◌, ◌≤◌, ℕ, drop, get_or, length};
+ghost use Rattle.std.specs.Prelude.{◌≡◌, ◌<◌, ◌≤◌, ℕ, Ok, drop, get_or, length};
 ghost use Rattle.rpc.specs.Credentials.{named};
 ghost use Rattle.rpc.specs.Headers.{header_at, heading};
 ghost use Rattle.session_wire.specs.Judging.{AreLast, Judges, judged, on_header, requested};
 
-use crate::message::Judged;
+use crate::message::{Judged, Lacking};
 use crate::programs::program_of;
 use bytes::Bytes;
 use nfs_codec::{decode_call, procedure_of};
@@ -16,18 +16,18 @@ use rpc::{
 use std::alloc::Global;
 use xdr::{Reader, XdrFault};
 
-/// What a record is taken for. Its header is read without memory. Where memory is refused for the arguments or
-/// for the caller's groups, the call is taken for one that is refused with `SystemError`.
-pub fn judge(alloc: Global, message: &Bytes) -> Judged
+/// What a record is taken for. Its header is read without memory. For a call it may be refused: for the arguments, or for
+/// the caller's groups.
+pub fn judge(alloc: Global, message: &Bytes) -> Result<Judged, Lacking>
     ensures { Judges result (judged message.now) }
 {
     each_fits(message);
     let mut reader = Reader::new(message.as_slice());
     let Ok(opening) = read_opening(&mut reader) else {
-        return Judged::Closed;
+        return Ok(Judged::Closed);
     };
     if opening.kind != CALL {
-        return Judged::Closed;
+        return Ok(Judged::Closed);
     }
     let xid = opening.xid;
     if opening.rpc_version != RPC_VERSION {
@@ -36,20 +36,25 @@ pub fn judge(alloc: Global, message: &Bytes) -> Judged
     judge_header(alloc, xid, message, &mut reader)
 }
 
-fn refused(xid: u32, refusal: Refusal) -> Judged
-    ensures { result ≡ Judged.Refused xid refusal }
+fn refused(xid: u32, refusal: Refusal) -> Result<Judged, Lacking>
+    ensures { result ≡ Ok (Judged.Refused xid refusal) }
 {
-    Judged::Refused { xid, refusal }
+    Ok(Judged::Refused { xid, refusal })
 }
 
 // What a call is taken for by the rest of its header and its arguments.
-fn judge_header(alloc: Global, xid: u32, message: &Bytes, reader: &mut Reader) -> Judged
+fn judge_header(
+    alloc: Global,
+    xid: u32,
+    message: &Bytes,
+    reader: &mut Reader,
+) -> Result<Judged, Lacking>
     requires { AreLast message.now reader.old }
     ensures { Judges result (on_header xid (header_at reader.old)) }
 {
     each_fits(message);
     let Ok(header) = read_header(reader) else {
-        return Judged::Closed;
+        return Ok(Judged::Closed);
     };
     match read_credential(header.flavor, header.body) {
         Err(refusal) => refused(xid, refusal),
@@ -89,7 +94,7 @@ fn judge_request(
     header: Header,
     message: &Bytes,
     from: usize,
-) -> Judged
+) -> Result<Judged, Lacking>
     requires { from ≤ length message.now }
     ensures { Judges result (requested xid (named caller.now) (heading header.entry) (drop from message.now)) }
 {
@@ -104,21 +109,26 @@ fn judge_request(
     };
     match decode_call(alloc, procedure, message, from) {
         Ok(call) => called(alloc, xid, caller, call),
-        Err(XdrFault::NoMemory(_)) => refused(xid, Refusal::SystemError),
+        Err(XdrFault::NoMemory(error)) => Err(Lacking { xid, error }),
         Err(_) => refused(xid, Refusal::GarbageArguments),
     }
 }
 
 // A call for its caller, whose groups take memory.
-fn called(alloc: Global, xid: u32, caller: &NamedCaller, call: ProgramCall) -> Judged
+fn called(
+    alloc: Global,
+    xid: u32,
+    caller: &NamedCaller,
+    call: ProgramCall,
+) -> Result<Judged, Lacking>
     ensures { Judges result (Judged.Call xid (named caller.now) call) }
 {
     match caller.credential(alloc) {
-        Ok(credential) => Judged::Call {
+        Ok(credential) => Ok(Judged::Call {
             xid,
             credential,
             call,
-        },
-        Err(_) => refused(xid, Refusal::SystemError),
+        }),
+        Err(error) => Err(Lacking { xid, error }),
     }
 }

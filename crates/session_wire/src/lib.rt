@@ -12,7 +12,8 @@ mod streams;
 
 pub use judgement::judge;
 pub use message::{
-    CallMessage, Judged, MessageCredential, MessageVerifier, ReplyBody, ReplyMessage, RpcReply,
+    CallMessage, Judged, Lacking, MessageCredential, MessageVerifier, ReplyBody, ReplyMessage,
+    RpcReply,
 };
 pub use message_laws::{
     calls_have_one_spelling, calls_share_no_spelling, judged_calls_are_spelled,

@@ -2,6 +2,7 @@
 
 use nfs_types::{Credential, MountReply, Octets, ProgramCall, ProgramReply, Reply};
 use rpc::Refusal;
+use std::alloc::AllocError;
 
 /// What the bytes of a record are taken for.
 #[derive(Drop)]
@@ -19,6 +20,14 @@ pub enum Judged {
         credential: Credential,
         call: ProgramCall,
     },
+}
+
+/// A call to which memory was refused, for its arguments or for its caller's groups: the number of its message, and the
+/// refusal.
+#[derive(Clone, Copy, Debug, PartialEq, Eq)]
+pub struct Lacking {
+    pub xid: u32,
+    pub error: AllocError,
 }
 
 /// What a call is answered.

@@ -34,7 +34,7 @@ show_refused_line opening.Version = codes "show refused 2 Version\n"
 show_refused_line opening.Range = codes "show refused 3 Range\n"
 show_refused_line opening.Log = codes "show refused 4 Log\n"
 show_refused_line opening.Device = codes "show refused 5 Device\n"
-show_refused_line opening.NoMemory = codes "show refused 6 NoMemory\n"
+show_refused_line (opening.NoMemory error) = codes "show refused 6 NoMemory\n"
 
 -- what is printed of a look
 abbrev pub scan_lines : ScannedFiles → List ℕ

@@ -16,13 +16,13 @@ open_refused_line opening.Version = codes "open refused 2 Version\n"
 open_refused_line opening.Range = codes "open refused 3 Range\n"
 open_refused_line opening.Log = codes "open refused 4 Log\n"
 open_refused_line opening.Device = codes "open refused 5 Device\n"
-open_refused_line opening.NoMemory = codes "open refused 6 NoMemory\n"
+open_refused_line (opening.NoMemory error) = codes "open refused 6 NoMemory\n"
 
 abbrev pub format_refused_line : FormatFault → List ℕ
 format_refused_line format.Size = codes "format refused 1 Size\n"
 format_refused_line format.Inodes = codes "format refused 2 Inodes\n"
 format_refused_line format.Device = codes "format refused 3 Device\n"
-format_refused_line format.NoMemory = codes "format refused 4 NoMemory\n"
+format_refused_line (format.NoMemory error) = codes "format refused 4 NoMemory\n"
 
 -- a reply without its mark, two digits a byte
 abbrev pub reply_line : ℕ → List ℕ → List ℕ

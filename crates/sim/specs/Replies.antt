@@ -37,7 +37,7 @@ number_of handed steps answer = number_after 0 handed steps answer
 -- memory that was refused is a system error
 abbrev pub body_of : Verdict → ReplyBody
 body_of (verdict.Reply reply) = Done (program_replies.Nfs reply)
-body_of verdict.NoMemory = Refused SystemError
+body_of (verdict.NoMemory error) = Refused SystemError
 
 -- an answer to a message of a number
 abbrev pub answer_line : ℕ → Answer → List ℕ

@@ -52,6 +52,6 @@ fn show_refused_line(fault: OpenFault) -> &'static str
         OpenFault::Range => "show refused 3 Range\n",
         OpenFault::Log => "show refused 4 Log\n",
         OpenFault::Device => "show refused 5 Device\n",
-        OpenFault::NoMemory => "show refused 6 NoMemory\n",
+        OpenFault::NoMemory(_) => "show refused 6 NoMemory\n",
     }
 }

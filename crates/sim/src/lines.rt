@@ -57,7 +57,7 @@ fn open_refused_line(fault: OpenFault) -> &'static str
         OpenFault::Range => "open refused 3 Range\n",
         OpenFault::Log => "open refused 4 Log\n",
         OpenFault::Device => "open refused 5 Device\n",
-        OpenFault::NoMemory => "open refused 6 NoMemory\n",
+        OpenFault::NoMemory(_) => "open refused 6 NoMemory\n",
     }
 }
 
@@ -68,6 +68,6 @@ fn format_refused_line(fault: FormatFault) -> &'static str
         FormatFault::Size => "format refused 1 Size\n",
         FormatFault::Inodes => "format refused 2 Inodes\n",
         FormatFault::Device => "format refused 3 Device\n",
-        FormatFault::NoMemory => "format refused 4 NoMemory\n",
+        FormatFault::NoMemory(_) => "format refused 4 NoMemory\n",
     }
 }

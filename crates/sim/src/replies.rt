@@ -75,7 +75,7 @@ fn print_answer<W: Write>(
 {
     let reply = match &answer.verdict {
         Verdict::Reply(reply) => RpcReply::Nfs(reply),
-        Verdict::NoMemory => RpcReply::Refused(Refusal::SystemError),
+        Verdict::NoMemory(_) => RpcReply::Refused(Refusal::SystemError),
     };
     match reply_bytes(alloc, xid, reply) {
         Ok(record) => print_reply(alloc, out, answer.worker, &record[MARK_BYTES..]),

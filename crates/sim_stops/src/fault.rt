@@ -30,7 +30,7 @@ impl<T: Drop> From<AllocFailed<T>> for StopsFault {
 impl From<FormatFault> for StopsFault {
     fn from(fault: FormatFault) -> StopsFault {
         match fault {
-            FormatFault::NoMemory => StopsFault::NoMemory,
+            FormatFault::NoMemory(_) => StopsFault::NoMemory,
             other => StopsFault::Format(other),
         }
     }
@@ -39,7 +39,7 @@ impl From<FormatFault> for StopsFault {
 impl From<OpenFault> for StopsFault {
     fn from(fault: OpenFault) -> StopsFault {
         match fault {
-            OpenFault::NoMemory => StopsFault::NoMemory,
+            OpenFault::NoMemory(_) => StopsFault::NoMemory,
             other => StopsFault::Open(other),
         }
     }

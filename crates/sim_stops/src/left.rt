@@ -129,6 +129,6 @@ fn name_of(fault: OpenFault) -> &'static str {
         OpenFault::Range => "3 Range",
         OpenFault::Log => "4 Log",
         OpenFault::Device => "5 Device",
-        OpenFault::NoMemory => "6 NoMemory",
+        OpenFault::NoMemory(_) => "6 NoMemory",
     }
 }

@@ -96,7 +96,7 @@ fn open_whole(
 // That an image isn't opened, or its files aren't told. For want of memory it isn't torn.
 fn refused(alloc: Global, left: Left<'_>, fault: OpenFault) -> StopsFault {
     match fault {
-        OpenFault::NoMemory => StopsFault::NoMemory,
+        OpenFault::NoMemory(_) => StopsFault::NoMemory,
         other => left.torn(alloc, &Difference::Refused(other)),
     }
 }

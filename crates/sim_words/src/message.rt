@@ -1,5 +1,4 @@
 //! A message that a script hands to a worker.
-ghost use Rattle.std.specs.Prelude.{◌≡◌};
 ghost use Rattle.sim_words.specs.Messages.{message_of, message_with};
 ghost use Rattle.sim_words.specs.Reading.{Gives};
 
@@ -7,7 +6,6 @@ use crate::fault::LineFault;
 use base::RECORD_BYTES;
 use bytes::Bytes;
 use nfs_types::{Call, Credential, ProgramCall};
-use rpc::Refusal;
 use session_wire::{Judged, judge};
 use std::alloc::Global;
 
@@ -20,7 +18,7 @@ pub struct Message {
 }
 
 /// The call that these bytes spell.
-#[tactic(auto, using(crate::proofs::Messages::refused, crate::proofs::Messages::closed, crate::proofs::Messages::called))]
+#[tactic(auto, using(crate::proofs::Messages::refused, crate::proofs::Messages::closed))]
 pub fn message_of(alloc: Global, bytes: &Bytes) -> Result<Message, LineFault>
     ensures { Gives (λ message. message) result (message_of bytes.now) }
 {
@@ -28,23 +26,16 @@ pub fn message_of(alloc: Global, bytes: &Bytes) -> Result<Message, LineFault>
         return Err(LineFault::Bad);
     }
     match judge(alloc, bytes) {
-        Judged::Closed => Err(LineFault::Bad),
-        Judged::Refused { refusal, .. } => Err(fault_of(refusal)),
-        Judged::Call {
-            xid,
-            credential,
-            call,
-        } => message_with(xid, credential, call),
-    }
-}
-
-// What it is to a script that a call is refused: that is bad, but where memory was refused.
-fn fault_of(refusal: Refusal) -> LineFault
-    ensures { refusal ≡ Refusal.SystemError → result ≡ LineFault.NoMemory }
-{
-    match refusal {
-        Refusal::SystemError => LineFault::NoMemory,
-        _ => LineFault::Bad,
+        Err(_) => Err(LineFault::NoMemory),
+        Ok(Judged::Closed) => Err(LineFault::Bad),
+        Ok(Judged::Refused { .. }) => Err(LineFault::Bad),
+        Ok(
+            Judged::Call {
+                xid,
+                credential,
+                call,
+            },
+        ) => message_with(xid, credential, call),
     }
 }
 

@@ -1,5 +1,5 @@
 -- How far a call is after a step of its worker, and what the step answers, by the stage that it was at.
-use Rattle.std.proofs.Common.{arith, ◌≡◌, ◌∙◌, refl, sym, ap, subst, true≢false, ℕ, ◌+◌, ◌^◌, ◌≤◌, ◌⊎◌, inl}
+use Rattle.std.proofs.Common.{arith, ◌≡◌, ◌∙◌, refl, sym, ap, subst, true≢false, ℕ, ◌+◌, ◌^◌, ◌≤◌, ◌⊎◌, inl, alloc_error}
 use Rattle.std.proofs.Common.{inr}
 use Rattle.std.proofs.Common.{Bool, true, false, ◌||◌, if◌then◌else◌, nat_le, is_some, Option, Some, None}
 use Rattle.std.proofs.Common.{Result, Ok, Err}
@@ -24,7 +24,7 @@ use Rattle.store_promise.specs.LockRequests.{is_barred}
 use Rattle.store_promise.specs.declared.lock_requests.LockRequest.{LockRequest}
 use Rattle.store_promise.specs.declared.lock_requests.LockRequest.TheVariants as lock_request
 use Rattle.store_promise.specs.Progress.{stage_after}
-use Rattle.store_promise.specs.Schedule.{begun_after, IsClaimAnswer, IsCommitting, IsStepRetakingFirst}
+use Rattle.store_promise.specs.Schedule.{begun_after, refused_after, IsClaimAnswer, IsCommitting, IsStepRetakingFirst}
 use Rattle.store_promise.specs.Schedule.{IsStepOfCalled}
 use Rattle.store_promise.specs.Schedule.{IsStepOfWork, IsLockAnswer, Setting, RunState, range_request_at}
 use Rattle.store_promise.specs.Transcript.{Transcript, committed_at, entry_of}
@@ -133,7 +133,7 @@ module _ (o : Outset) (now new : Opened) (after : IsAfter now new) where
   pub cause_then : (added : ℕ) (why : Cause) → HasCause o now added why → HasCause o new added why
   cause_then added cause.Io has = failed_then has
   cause_then added cause.Spent has = spent_then added has
-  cause_then added cause.NoMemory has = tt
+  cause_then added (cause.NoMemory error) has = let more = after.further.refused in omega (arith, has, more)
 
   -- the transaction of the call is still its own
   pub begun_then : (number : ℕ) → IsBegunFor o now number → IsBegunFor o new number
@@ -232,6 +232,7 @@ pub record IsStepFrom (o : Outset) (now : Opened) (s : Setting) (t : RunState) :
   pub broken_is : t.log.broken ≡ now.core.log.broken
   pub begun_is : t.begun ≡ now.core.begun
   pub more_begun : o.store.core.begun ≤ now.core.begun
+  pub more_refused : o.store.core.refused ≤ now.core.refused
   pub settled_is : state_settled t.log ≡ settled_place now.core.log
   pub still_broken : o.store.core.log.broken ≡ true → now.core.log.broken ≡ true
   pub past : IsLater o.store.device now.device
@@ -252,17 +253,21 @@ module _ (o : Outset) (now new : Opened) (s : Setting) (t : RunState) (from : Is
   broke is = broken_failed o.store.core.log o.store.device new.device
       (past_more o.store.device now.device new.device from.past after.past) (breaks is)
 
+  -- memory was refused in the step
+  lacks : new.core.refused ≡ now.core.refused + 1 → HasCause o new 0 (cause.NoMemory alloc_error)
+  lacks one = let more = from.more_refused in omega (arith, one, more)
+
   -- why no transaction was begun
   begin_cause : (served : Bool) (why : BeginFault) → IsStepOfCalled t served (step.Begun (Err why))
-      → HasCause o new 0 (cause_of why)
-  begin_cause true begin_fault.Broken may = broke (sym from.broken_is ∙ may)
-  begin_cause true begin_fault.Spent may = cause_then o now new after 0 cause.Spent (inl (record {
+      → new.core.refused ≡ refused_after now.core.refused (step.Begun (Err why)) → HasCause o new 0 (cause_of why)
+  begin_cause true begin_fault.Broken may refusals = broke (sym from.broken_is ∙ may)
+  begin_cause true begin_fault.Spent may refusals = cause_then o now new after 0 cause.Spent (inl (record {
     sound = not_true o.store.core.log.broken (λ is.
         true≢false (sym (from.still_broken is) ∙ sym from.broken_is ∙ may.0));
     none = subst (λ (n : ℕ). 2 ^ 64 ≤ n + 1) from.begun_is may.1;
   }))
-  begin_cause true begin_fault.NoMemory may = tt
-  begin_cause false why may = absurd (none may)
+  begin_cause true (begin_fault.NoMemory error) may refusals = lacks refusals
+  begin_cause false why may refusals = absurd (none may)
     where
       none : step.Begun (Err why) ≡ step.Replied → ⊥
       none same = cc
@@ -332,22 +337,24 @@ module _ (o : Outset) (now new : Opened) (s : Setting) (t : RunState) (from : Is
     taken_ok begun block (next ∷ later) none = none
 
     wanted_ok : (begun : Begun) (taken : Taken) (answer : LockAnswer) → NoneIn begun
-        → (answer ≡ lock_answer.Outside → ⊥) → StandsWith o entry new (after_wanted begun taken answer)
-    wanted_ok begun taken lock_answer.Held none inside = held_ok begun taken begun.left none
-    wanted_ok begun taken lock_answer.Fetch none inside = none
-    wanted_ok begun taken lock_answer.Busy none inside = off_ok begun (lock_request_of taken) none
-    wanted_ok begun taken lock_answer.Loading none inside = off_ok begun (lock_request_of taken) none
-    wanted_ok begun taken lock_answer.Outside none inside = absurd (inside refl)
-    wanted_ok begun taken lock_answer.NoMemory none inside = (none.0, none.1, 0, tt)
+        → (answer ≡ lock_answer.Outside → ⊥) → (answer ≡ lock_answer.NoMemory alloc_error → HasCause o new 0 (cause.NoMemory alloc_error))
+        → StandsWith o entry new (after_wanted begun taken answer)
+    wanted_ok begun taken lock_answer.Held none inside lacked = held_ok begun taken begun.left none
+    wanted_ok begun taken lock_answer.Fetch none inside lacked = none
+    wanted_ok begun taken lock_answer.Busy none inside lacked = off_ok begun (lock_request_of taken) none
+    wanted_ok begun taken lock_answer.Loading none inside lacked = off_ok begun (lock_request_of taken) none
+    wanted_ok begun taken lock_answer.Outside none inside lacked = absurd (inside refl)
+    wanted_ok begun taken (lock_answer.NoMemory error) none inside lacked = (none.0, none.1, 0, lacked refl)
 
     claimed_ok : (begun : Begun) (block : BlockNo) (answer : LockAnswer) → NoneIn begun
-        → (answer ≡ lock_answer.Outside → ⊥) → StandsWith o entry new (after_claimed begun block answer)
-    claimed_ok begun block lock_answer.Held none inside = taken_ok begun block begun.left none
-    claimed_ok begun block lock_answer.Fetch none inside = none
-    claimed_ok begun block lock_answer.Busy none inside = off_ok begun (lock_request.Claim block) none
-    claimed_ok begun block lock_answer.Loading none inside = off_ok begun (lock_request.Claim block) none
-    claimed_ok begun block lock_answer.Outside none inside = absurd (inside refl)
-    claimed_ok begun block lock_answer.NoMemory none inside = (none.0, none.1, 0, tt)
+        → (answer ≡ lock_answer.Outside → ⊥) → (answer ≡ lock_answer.NoMemory alloc_error → HasCause o new 0 (cause.NoMemory alloc_error))
+        → StandsWith o entry new (after_claimed begun block answer)
+    claimed_ok begun block lock_answer.Held none inside lacked = taken_ok begun block begun.left none
+    claimed_ok begun block lock_answer.Fetch none inside lacked = none
+    claimed_ok begun block lock_answer.Busy none inside lacked = off_ok begun (lock_request.Claim block) none
+    claimed_ok begun block lock_answer.Loading none inside lacked = off_ok begun (lock_request.Claim block) none
+    claimed_ok begun block lock_answer.Outside none inside lacked = absurd (inside refl)
+    claimed_ok begun block (lock_answer.NoMemory error) none inside lacked = (none.0, none.1, 0, lacked refl)
 
     never_outside : (begun : Begun) (request : RangeRequest) (answer : LockAnswer) → IsLockAnswer t 0 begun request answer
         → answer ≡ lock_answer.Outside → ⊥
@@ -365,14 +372,15 @@ module _ (o : Outset) (now new : Opened) (s : Setting) (t : RunState) (from : Is
     commit_ok : (begun : Begun) (blocks : List BlockNo) (answer : Committing) → NoneIn begun
         → has_committed (Some (step.Commit blocks answer)) ≡ false
         → IsCommitting s t.log blocks answer → (answer ≡ committing.Spent → SaysSpent)
+        → new.core.refused ≡ refused_after now.core.refused (step.Commit blocks answer)
         → StageOk (after_commit stable begun answer)
-    commit_ok begun blocks (committing.Committed place) none not may spent = absurd (true≢false not)
-    commit_ok begun blocks committing.Full none not may spent = none
-    commit_ok begun blocks committing.Foreign none not may spent = none
-    commit_ok begun blocks committing.NoMemory none not may spent = (none.0, none.1, 0, tt)
-    commit_ok begun blocks committing.Broken none not may spent =
+    commit_ok begun blocks (committing.Committed place) none not may spent refusals = absurd (true≢false not)
+    commit_ok begun blocks committing.Full none not may spent refusals = none
+    commit_ok begun blocks committing.Foreign none not may spent refusals = none
+    commit_ok begun blocks (committing.NoMemory error) none not may spent refusals = (none.0, none.1, 0, lacks refusals)
+    commit_ok begun blocks committing.Broken none not may spent refusals =
         (none.0, none.1, 0, broke (sym from.broken_is ∙ may))
-    commit_ok begun blocks committing.Spent none not may spent =
+    commit_ok begun blocks committing.Spent none not may spent refusals =
         let says = spent refl in (none.0, none.1, says.0, says.1)
 
     waits_ok : (settled : Bool) (place : ℕ) → StandsWith o entry now (Waiting place)
@@ -389,24 +397,29 @@ module _ (o : Outset) (now new : Opened) (s : Setting) (t : RunState) (from : Is
 
     planning_ok : (left : List LockRequest) (begun : Begun) (made : Step) → has_committed (Some made) ≡ false
         → NoneIn begun → IsStepRetakingFirst left s t 0 begun made
+        → new.core.refused ≡ refused_after now.core.refused made
         → ((blocks : List BlockNo) → made ≡ step.Commit blocks committing.Spent → SaysSpent)
         → StageOk (after_planning stable begun made)
-    planning_ok [] begun (step.Wanted addr mode answer) not none may spent =
+    planning_ok [] begun (step.Wanted addr mode answer) not none may refusals spent =
         wanted_ok begun (record { addr = addr; mode = mode }) answer none
         (never_outside begun (range_request_at addr mode) answer may.1)
-    planning_ok [] begun (step.Claimed block answer) not none may spent =
+        (λ is. lacks (refusals ∙ ap (λ (a : LockAnswer). refused_after now.core.refused (step.Wanted addr mode a)) is))
+    planning_ok [] begun (step.Claimed block answer) not none may refusals spent =
         claimed_ok begun block answer none (never_claimed_outside begun block answer may.1)
-    planning_ok [] begun (step.Commit blocks answer) not none may spent =
+        (λ is. lacks (refusals ∙ ap (λ (a : LockAnswer). refused_after now.core.refused (step.Claimed block a)) is))
+    planning_ok [] begun (step.Commit blocks answer) not none may refusals spent =
         commit_ok begun blocks answer none not may.1
-        (λ is. spent blocks (ap (λ (a : Committing). step.Commit blocks a) is))
-    planning_ok [] begun (step.Ended why) not none may spent = tt
-    planning_ok [] begun _ not none may spent = none
-    planning_ok (next ∷ later) begun (step.Wanted addr mode answer) not none may spent =
+        (λ is. spent blocks (ap (λ (a : Committing). step.Commit blocks a) is)) refusals
+    planning_ok [] begun (step.Ended why) not none may refusals spent = tt
+    planning_ok [] begun _ not none may refusals spent = none
+    planning_ok (next ∷ later) begun (step.Wanted addr mode answer) not none may refusals spent =
         wanted_ok begun (record { addr = addr; mode = mode }) answer none
         (never_outside begun (range_request_at addr mode) answer may.1)
-    planning_ok (next ∷ later) begun (step.Claimed block answer) not none may spent =
+        (λ is. lacks (refusals ∙ ap (λ (a : LockAnswer). refused_after now.core.refused (step.Wanted addr mode a)) is))
+    planning_ok (next ∷ later) begun (step.Claimed block answer) not none may refusals spent =
         claimed_ok begun block answer none (never_claimed_outside begun block answer may.1)
-    planning_ok (next ∷ later) begun _ not none may spent = absurd may
+        (λ is. lacks (refusals ∙ ap (λ (a : LockAnswer). refused_after now.core.refused (step.Claimed block a)) is))
+    planning_ok (next ∷ later) begun _ not none may refusals spent = absurd may
 
     waiting_ok : (place : ℕ) (made : Step) → StandsWith o entry now (Waiting place)
         → StageOk (after_waiting broken place made)
@@ -416,27 +429,28 @@ module _ (o : Outset) (now new : Opened) (s : Setting) (t : RunState) (from : Is
     pub next_ok : (stage : Stage) (made : Step) → has_committed (Some made) ≡ false
         → StandsWith o entry now stage
         → IsStepOfWork s t 0 (At o.asked stage) (Some made) → new.core.begun ≡ begun_after now.core.begun made
+        → new.core.refused ≡ refused_after now.core.refused made
         → ((blocks : List BlockNo) → made ≡ step.Commit blocks committing.Spent → SaysSpent)
         → StageOk (stage_after broken stable made stage)
-    next_ok (Called known) made not stands may then_ spent = called_ok known made stands.0 may then_
-    next_ok (Planning begun) made not stands may then_ spent =
-        planning_ok begun.left begun made not (stands.0, begun_then o now new after begun.number stands.1) may spent
-    next_ok (Reading begun taken) made not stands may then_ spent = absurd (some_none made may)
+    next_ok (Called known) made not stands may then_ refusals spent = called_ok known made stands.0 may then_
+    next_ok (Planning begun) made not stands may then_ refusals spent =
+        planning_ok begun.left begun made not (stands.0, begun_then o now new after begun.number stands.1) may refusals spent
+    next_ok (Reading begun taken) made not stands may then_ refusals spent = absurd (some_none made may)
       where
         some_none : (made : Step) → Some made ≡ None → ⊥
         some_none made same = cc
-    next_ok (Read begun taken true) made not stands may then_ spent =
+    next_ok (Read begun taken true) made not stands may then_ refusals spent =
         (stands.0, begun_then o now new after begun.number stands.1)
-    next_ok (Read begun taken false) made not stands may then_ spent = (
+    next_ok (Read begun taken false) made not stands may then_ refusals spent = (
       stands.0,
       begun_then o now new after begun.number stands.1,
       0,
       cause_then o now new after 0 cause.Io (inr stands.2),
     )
-    next_ok (Refused begun why) made not stands may then_ spent = tt
-    next_ok (Again begun request) made not stands may then_ spent =
+    next_ok (Refused begun why) made not stands may then_ refusals spent = tt
+    next_ok (Again begun request) made not stands may then_ refusals spent =
         (stands.0, λ unserved. absurd (true≢false (sym stands.1.begins ∙ unserved)))
-    next_ok (Waiting place) made not stands may then_ spent = waiting_ok place made stands
+    next_ok (Waiting place) made not stands may then_ refusals spent = waiting_ok place made stands
 
     pub stage_then : (next : Option Stage) → StageOk next → IsAtStage o entry new (going_on o.asked next)
     stage_then None ok = tt
@@ -452,8 +466,9 @@ module _ (o : Outset) (now new : Opened) (s : Setting) (t : RunState) (from : Is
         → (made ≡ step.Replied → new ≡ now)
         → IsStepOfCalled t (begins_transaction o.asked.call) made
         → new.core.begun ≡ begun_after now.core.begun made
+        → new.core.refused ≡ refused_after now.core.refused made
         → HasVerdict t2 o.asked.call (Called known) made a → Tells o entry a.verdict new
-    called_tells known step.Replied t2 a stands same may then_ proven =
+    called_tells known step.Replied t2 a stands same may then_ refusals proven =
         let none = unserved (begins_transaction o.asked.call) refl may in
         let was = stands.1 none in
         none_tells a stands.0 (inl (record {
@@ -462,39 +477,40 @@ module _ (o : Outset) (now new : Opened) (s : Setting) (t : RunState) (from : Is
           left = λ few. same refl ∙ was;
           verdict_is_reply = proven.1;
         }))
-    called_tells known (step.Begun (Err why)) t2 a stands same may then_ proven = none_tells a stands.0
+    called_tells known (step.Begun (Err why)) t2 a stands same may then_ refusals proven = none_tells a stands.0
         (inr (record {
           begins = is_served (begins_transaction o.asked.call) (Err why) refl may;
           why = cause_of why;
           verdict_is_reply = proven.1;
           added = 0;
-          because = begin_cause (begins_transaction o.asked.call) why may;
+          because = begin_cause (begins_transaction o.asked.call) why may refusals;
         }))
-    called_tells known (step.Begun (Ok number)) t2 a stands same may then_ proven = absurd proven
-    called_tells known _ t2 a stands same may then_ proven = absurd proven
+    called_tells known (step.Begun (Ok number)) t2 a stands same may then_ refusals proven = absurd proven
+    called_tells known _ t2 a stands same may then_ refusals proven = absurd proven
 
     planning_tells : (begun : Begun) (made : Step) (t2 : Transcript) (a : Answer)
         → has_committed (Some made) ≡ false → StandsWith o entry now (Planning begun)
+        → new.core.refused ≡ refused_after now.core.refused made
         → HasVerdict t2 o.asked.call (Planning begun) made a
         → Tells o entry a.verdict new
-    planning_tells begun (step.Commit blocks (committing.Committed place)) t2 a not stands proven =
+    planning_tells begun (step.Commit blocks (committing.Committed place)) t2 a not stands refusals proven =
         absurd (true≢false not)
-    planning_tells begun (step.Ended ending.NoMemory) t2 a not stands proven = none_tells a stands.0
+    planning_tells begun (step.Ended (ending.NoMemory error)) t2 a not stands refusals proven = none_tells a stands.0
         (inr (record {
           begins = stands.1.begins;
-          why = cause.NoMemory;
+          why = (cause.NoMemory alloc_error);
           verdict_is_reply = proven.1;
           added = 0;
-          because = tt;
+          because = lacks refusals;
         }))
-    planning_tells begun (step.Ended ending.Refused) t2 a not stands proven = absurd proven
-    planning_tells begun (step.Ended ending.Again) t2 a not stands proven = absurd proven
-    planning_tells begun (step.Commit blocks committing.Full) t2 a not stands proven = absurd proven
-    planning_tells begun (step.Commit blocks committing.Foreign) t2 a not stands proven = absurd proven
-    planning_tells begun (step.Commit blocks committing.NoMemory) t2 a not stands proven = absurd proven
-    planning_tells begun (step.Commit blocks committing.Broken) t2 a not stands proven = absurd proven
-    planning_tells begun (step.Commit blocks committing.Spent) t2 a not stands proven = absurd proven
-    planning_tells begun _ t2 a not stands proven = absurd proven
+    planning_tells begun (step.Ended ending.Refused) t2 a not stands refusals proven = absurd proven
+    planning_tells begun (step.Ended ending.Again) t2 a not stands refusals proven = absurd proven
+    planning_tells begun (step.Commit blocks committing.Full) t2 a not stands refusals proven = absurd proven
+    planning_tells begun (step.Commit blocks committing.Foreign) t2 a not stands refusals proven = absurd proven
+    planning_tells begun (step.Commit blocks (committing.NoMemory error)) t2 a not stands refusals proven = absurd proven
+    planning_tells begun (step.Commit blocks committing.Broken) t2 a not stands refusals proven = absurd proven
+    planning_tells begun (step.Commit blocks committing.Spent) t2 a not stands refusals proven = absurd proven
+    planning_tells begun _ t2 a not stands refusals proven = absurd proven
 
     refused_tells : (begun : Begun) (why : Cause) (made : Step) (t2 : Transcript) (a : Answer)
         → StandsWith o entry now (Refused begun why) → HasVerdict t2 o.asked.call (Refused begun why) made a
@@ -507,7 +523,7 @@ module _ (o : Outset) (now new : Opened) (s : Setting) (t : RunState) (from : Is
           added = stands.2;
           because = cause_then o now new after stands.2 why stands.3;
         }))
-    refused_tells begun why (step.Ended ending.NoMemory) t2 a stands proven = absurd proven
+    refused_tells begun why (step.Ended (ending.NoMemory error)) t2 a stands proven = absurd proven
     refused_tells begun why (step.Ended ending.Again) t2 a stands proven = absurd proven
     refused_tells begun why _ t2 a stands proven = absurd proven
 
@@ -547,30 +563,31 @@ module _ (o : Outset) (now new : Opened) (s : Setting) (t : RunState) (from : Is
       → has_committed (Some made) ≡ false → StandsWith o entry now stage
       → IsStepOfWork s t 0 (At o.asked stage) (Some made)
       → new.core.begun ≡ begun_after now.core.begun made
+      → new.core.refused ≡ refused_after now.core.refused made
       → ((known : List LockRequest) → stage ≡ Called known → made ≡ step.Replied → new ≡ now)
       → is_idle (going_on o.asked (stage_after broken stable made stage)) ≡ true
       → HasVerdict (transcript_of_entries (o.entries ++ option_to_list entry)) o.asked.call stage made a
       → Tells o entry a.verdict new
-  tells_of entry (Called known) made a not stands may then_ same ends proven =
+  tells_of entry (Called known) made a not stands may then_ refusals same ends proven =
       called_tells entry known made (transcript_of_entries (o.entries ++ option_to_list entry)) a stands (same known refl) may
-      then_ proven
-  tells_of entry (Planning begun) made a not stands may then_ same ends proven =
-      planning_tells entry begun made (transcript_of_entries (o.entries ++ option_to_list entry)) a not stands proven
-  tells_of entry (Reading begun taken) made a not stands may then_ same ends proven =
+      then_ refusals proven
+  tells_of entry (Planning begun) made a not stands may then_ refusals same ends proven =
+      planning_tells entry begun made (transcript_of_entries (o.entries ++ option_to_list entry)) a not stands refusals proven
+  tells_of entry (Reading begun taken) made a not stands may then_ refusals same ends proven =
       absurd (true≢false (sym (still made ends))) where
         still : (made : Step)
             → is_idle (going_on o.asked (stage_after broken stable made (Reading begun taken))) ≡ true
             → false ≡ true
         still (step.Read block ok) is = is
         still _ is = is
-  tells_of entry (Read begun taken true) made a not stands may then_ same ends proven =
+  tells_of entry (Read begun taken true) made a not stands may then_ refusals same ends proven =
       absurd (true≢false (sym ends))
-  tells_of entry (Read begun taken false) made a not stands may then_ same ends proven =
+  tells_of entry (Read begun taken false) made a not stands may then_ refusals same ends proven =
       absurd (true≢false (sym ends))
-  tells_of entry (Refused begun why) made a not stands may then_ same ends proven =
+  tells_of entry (Refused begun why) made a not stands may then_ refusals same ends proven =
       refused_tells entry begun why made (transcript_of_entries (o.entries ++ option_to_list entry)) a stands proven
-  tells_of entry (Again begun request) made a not stands may then_ same ends proven = absurd (true≢false (sym ends))
-  tells_of entry (Waiting place) made a not stands may then_ same ends proven =
+  tells_of entry (Again begun request) made a not stands may then_ refusals same ends proven = absurd (true≢false (sym ends))
+  tells_of entry (Waiting place) made a not stands may then_ refusals same ends proven =
       waiting_tells entry place made a stands may ends proven
 
 -- ---- a call that waits for the log is served

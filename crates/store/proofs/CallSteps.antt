@@ -1,6 +1,6 @@
 -- A call that is under way stays so with each step of its worker, or is answered by it.
 use Rattle.std.proofs.Common.{arith, ◌≡◌, ◌∙◌, refl, sym, ap, subst, true≢false, ℕ, suc, ◌+◌, ◌-◌, ◌≤◌, inr}
-use Rattle.std.proofs.Common.{Bool, true, false, not, ◌&&◌, Option, Some, None, IfSome, Ok, is_some}
+use Rattle.std.proofs.Common.{Bool, true, false, not, ◌&&◌, Option, Some, None, IfSome, Ok, Err, is_some}
 use Rattle.std.proofs.Common.{List, [], ◌∷◌, ◌++◌, drop, length, map, option_to_list}
 use Rattle.std.specs.Prelude.{nat_eq, if◌then◌else◌, IsSomeAnd}
 use Rattle.std.proofs.lemmas.Bool.Decides.{nat_tests}
@@ -22,6 +22,7 @@ use Rattle.circ.specs.Log.Grows.{GrowsBy}
 use Rattle.circ.specs.Log.Log.{Log, added_blocks, installed_place, place_before, settled_place}
 use Rattle.circ.specs.declared.log.change.LogChange.{LogChange}
 use Rattle.circ.specs.declared.log.outcomes.Seq.{Seq}
+use Rattle.txn.specs.declared.outcomes.BeginFault.TheVariants as begin_fault
 use Rattle.store_promise.specs.LogState.{state_added}
 use Rattle.store_promise.specs.History.{ctx_of}
 use Rattle.store_promise.specs.OpenSince.{HasPreservedFiles, LeavesLogUnchanged, blocks_after, file_blocks}
@@ -29,13 +30,18 @@ use Rattle.store_promise.specs.Progress.{Begun, Job, Progress, Stage, Taken, At,
 use Rattle.store_promise.specs.Progress.{is_idle, progressed}
 use Rattle.store_promise.specs.Progress as how
 use Rattle.store_promise.specs.Running.{IsRunningOver, IsRunState, StoreState, at_rest, store_log_state, with_blocks}
-use Rattle.store_promise.specs.Schedule.{IsStepOfWork, Setting, RunState, begun_after, state_after}
+use Rattle.store_promise.specs.Schedule.{IsStepOfWork, Setting, RunState, begun_after, refused_after, state_after}
 use Rattle.store_promise.specs.LogStateOf.{log_state_of}
 use Rattle.store_promise.specs.Verdicts.{HasVerdict, IsReplyAt}
 use Rattle.store_promise.specs.declared.answers.CallAnswer.{CallAnswer}
 use Rattle.store_promise.specs.declared.answers.Entry as ready
 use Rattle.store_promise.specs.declared.events.Cause.TheVariants as cause
+use Rattle.store_promise.specs.declared.events.Committing.{Committing}
 use Rattle.store_promise.specs.declared.events.Committing.TheVariants as committing
+use Rattle.store_promise.specs.declared.events.Ending.{Ending}
+use Rattle.store_promise.specs.declared.events.Ending.TheVariants as ending
+use Rattle.store_promise.specs.declared.events.LockAnswer.{LockAnswer}
+use Rattle.store_promise.specs.declared.events.LockAnswer.TheVariants as lock_answer
 use Rattle.store_promise.specs.declared.events.Event.TheVariants as event
 use Rattle.store_promise.specs.declared.events.Step.{Step}
 use Rattle.store_promise.specs.declared.events.Step.TheVariants as step
@@ -117,6 +123,7 @@ abbrev pub state_when_opened : Opened → RunState
 state_when_opened now = record {
   workers = λ worker. how.Idle;
   begun = now.core.begun;
+  refused = now.core.refused;
   log = store_log_state 0 (at_rest now.device now.core);
 }
 
@@ -125,6 +132,7 @@ pub state_agrees : (o : Setting) (now : Opened) → o.position ≡ 0
 state_agrees o now none = record {
   log = ap (λ (n : ℕ). log_state_of n now.core.log idle idle) (sym none);
   begun = refl;
+  refused = refl;
 }
 
 -- ---- replies
@@ -156,7 +164,7 @@ no_entry boot places progress (Some (step.Commit added (committing.Committed pla
     absurd (true≢false not)
 no_entry boot places progress (Some (step.Commit added committing.Full)) entry not is = is
 no_entry boot places progress (Some (step.Commit added committing.Foreign)) entry not is = is
-no_entry boot places progress (Some (step.Commit added committing.NoMemory)) entry not is = is
+no_entry boot places progress (Some (step.Commit added (committing.NoMemory error))) entry not is = is
 no_entry boot places progress (Some (step.Commit added committing.Broken)) entry not is = is
 no_entry boot places progress (Some (step.Commit added committing.Spent)) entry not is = is
 no_entry boot places progress None entry not is = is
@@ -172,7 +180,7 @@ commit_step (Some (step.Commit added (committing.Committed place))) has =
     record { added = added; place = place; made_is = refl }
 commit_step (Some (step.Commit added committing.Full)) has = absurd (true≢false (sym has))
 commit_step (Some (step.Commit added committing.Foreign)) has = absurd (true≢false (sym has))
-commit_step (Some (step.Commit added committing.NoMemory)) has = absurd (true≢false (sym has))
+commit_step (Some (step.Commit added (committing.NoMemory error))) has = absurd (true≢false (sym has))
 commit_step (Some (step.Commit added committing.Broken)) has = absurd (true≢false (sym has))
 commit_step (Some (step.Commit added committing.Spent)) has = absurd (true≢false (sym has))
 commit_step None has = absurd (true≢false (sym has))
@@ -186,6 +194,39 @@ begun_more begun _ = omega arith
 begun_then : (run_state : RunState) (made : Option Step) → run_state.begun ≤ (state_after run_state (event.Work 0) made).begun
 begun_then run_state None = omega arith
 begun_then run_state (Some made) = begun_more run_state.begun made
+
+-- and refusals are only counted
+refused_more : (refused : ℕ) (made : Step) → refused ≤ refused_after refused made
+refused_more refused (step.Begun (Ok number)) = omega arith
+refused_more refused (step.Begun (Err begin_fault.Broken)) = omega arith
+refused_more refused (step.Begun (Err begin_fault.Spent)) = omega arith
+refused_more refused (step.Begun (Err (begin_fault.NoMemory error))) = omega arith
+refused_more refused (step.Wanted addr mode answer) = by answer
+  where
+    by : (answer : LockAnswer) → refused ≤ refused_after refused (step.Wanted addr mode answer)
+    by (lock_answer.NoMemory error) = omega arith
+    by _ = omega arith
+refused_more refused (step.Claimed block answer) = by answer
+  where
+    by : (answer : LockAnswer) → refused ≤ refused_after refused (step.Claimed block answer)
+    by (lock_answer.NoMemory error) = omega arith
+    by _ = omega arith
+refused_more refused (step.Commit blocks answer) = by answer
+  where
+    by : (answer : Committing) → refused ≤ refused_after refused (step.Commit blocks answer)
+    by (committing.NoMemory error) = omega arith
+    by _ = omega arith
+refused_more refused (step.Ended why) = by why
+  where
+    by : (why : Ending) → refused ≤ refused_after refused (step.Ended why)
+    by (ending.NoMemory error) = omega arith
+    by _ = omega arith
+refused_more refused _ = omega arith
+
+refused_then : (run_state : RunState) (made : Option Step)
+    → run_state.refused ≤ (state_after run_state (event.Work 0) made).refused
+refused_then run_state None = omega arith
+refused_then run_state (Some made) = refused_more run_state.refused made
 
 some_more : (n : ℕ) → nat_eq (suc n) 0 ≡ false
 some_more n = grind (arith, nat_tests)
@@ -307,6 +348,7 @@ module _ (o : Outset) (now : Opened) (worker : State) (new : WorkerAndCore) (mad
     broken_is = refl;
     begun_is = refl;
     more_begun = calling.further.begun;
+    more_refused = calling.further.refused;
     settled_is = settled_is 0 now.core.log idle idle calling.opened.since.over.lawful;
     still_broken = calling.further.broken;
     past = calling.past;
@@ -337,6 +379,7 @@ module _ (o : Outset) (now : Opened) (worker : State) (new : WorkerAndCore) (mad
           failures = omega arith;
           further = record {
             begun = let more = begun_then t made in let is = state_agrees_then.begun in omega (arith, more, is);
+            refused = let more = refused_then t made in let is = state_agrees_then.refused in omega (arith, more, is);
             places = subst (λ (l : Log). now.core.log.places ≤ l.places) (sym log_is) (omega arith);
             positions = subst (λ (l : Log). end_of now.core.log ≤ end_of l) (sym log_is) (omega arith);
             settled = subst (λ (l : Log). settled_place now.core.log ≤ settled_place l) (sym log_is)
@@ -356,6 +399,11 @@ module _ (o : Outset) (now : Opened) (worker : State) (new : WorkerAndCore) (mad
         counted_by : (one : Step) → made ≡ Some one → new.core.begun ≡ begun_after now.core.begun one
         counted_by one is = sym state_agrees_then.begun
             ∙ ap (λ (m : Option Step). (state_after t (event.Work 0) m).begun) is
+
+        -- and of refusals
+        refusals_by : (one : Step) → made ≡ Some one → new.core.refused ≡ refused_after now.core.refused one
+        refusals_by one is = sym state_agrees_then.refused
+            ∙ ap (λ (m : Option Step). (state_after t (event.Work 0) m).refused) is
 
         -- how far it is where no step was made
         stage_none : (p : Progress) → IsAtStage o calling.entry now p → IsStepOfWork s t 0 p None
@@ -394,7 +442,7 @@ module _ (o : Outset) (now : Opened) (worker : State) (new : WorkerAndCore) (mad
             (stage_then o now later s t from after calling.entry
             (how.stage_after now.core.log.broken (is_answered_stable o.asked.call) one stage)
             (next_ok o now later s t from after calling.entry stage one not has.1
-            (subst (λ (j : Job). IsStepOfWork s t 0 (At j stage) (Some one)) has.0 may) (counted_by one is)
+            (subst (λ (j : Job). IsStepOfWork s t 0 (At j stage) (Some one)) has.0 may) (counted_by one is) (refusals_by one is)
             (λ blocks at. spent_by blocks (is ∙ ap (λ (x : Step). Some x) at))))
 
         calling_then : IsCalling o later (reported new.worker)
@@ -450,7 +498,7 @@ module _ (o : Outset) (now : Opened) (worker : State) (new : WorkerAndCore) (mad
             let verdict_is = verdict_of (with_ready 0 entries new.worker) (progress_of worker) made ready is in
             tells_of o now later s t from after calling.entry is.stage is.step (answer_of ready) not has.1
             (subst (λ (j : Job). IsStepOfWork s t 0 (At j is.stage) (Some is.step)) has.0 may_so)
-            (counted_by is.step is.made_is)
+            (counted_by is.step is.made_is) (refusals_by is.step is.made_is)
             (λ known stage_is step_is. same_store is.job is.stage is.step is.so_far is.made_is known stage_is step_is)
             (subst (λ (j : Job). is_idle (progressed now.core.log.broken is.step (At j is.stage))
             ≡ true) has.0 ended)
@@ -543,6 +591,7 @@ module _ (o : Outset) (now : Opened) (worker : State) (new : WorkerAndCore) (mad
           further_made : IsFurther now.core new.core
           further_made = record {
             begun = let more = begun_then t made in let is = state_agrees_then.begun in omega (arith, more, is);
+            refused = let more = refused_then t made in let is = state_agrees_then.refused in omega (arith, more, is);
             places = let one = goes_with.taken.took.places in omega (arith, one);
             positions = let is = longer in omega (arith, is);
             settled = settled_grows now.core.log new.core.log goes_with.taken.took.group.group

@@ -1,5 +1,5 @@
 -- Each round of a call that one thread drives leaves less of it.
-use Rattle.std.proofs.Common.{arith, ◌≡◌, ◌∙◌, refl, sym, ap, subst, true≢false, ℕ, ◌+◌, ◌-◌, ◌*◌, ◌<◌}
+use Rattle.std.proofs.Common.{arith, ◌≡◌, ◌∙◌, refl, sym, ap, subst, true≢false, ℕ, ◌+◌, ◌-◌, ◌*◌, ◌<◌, alloc_error}
 use Rattle.std.proofs.Common.{◌≤◌, ◌⊎◌, inl, inr}
 use Rattle.std.proofs.Common.{Bool, true, false, ◌||◌, if◌then◌else◌, nat_le, Option, Some, None}
 use Rattle.std.proofs.Common.{is_some}
@@ -33,7 +33,7 @@ use Rattle.procs.proofs.FewClaimed.{few_claimed, one_claimed_once}
 use Rattle.txn.specs.Core.{CoreState}
 use Rattle.txn.specs.Fetch.{Fetch}
 use Rattle.txn.specs.Group.{blocks_of}
-use Rattle.txn.specs.Outcomes.{IsClaimed, IsCommit, IsWanted}
+use Rattle.txn.specs.Outcomes.{IsClaimed, IsCommit, IsWanted, unbegun}
 use Rattle.txn.specs.declared.outcomes.Claim.{Claim}
 use Rattle.txn.specs.declared.outcomes.Claim.TheVariants as claim
 use Rattle.txn.specs.declared.outcomes.Commit.{Commit}
@@ -250,9 +250,9 @@ begun_so old new job number has =
         (subst (λ n. away new.core ≤ n) (ap (λ (l : Log). l.blocks) log)
         (at_most_all (is_at_hand new.core) new.core.log.blocks))
 
-at_once_holds : (old new : WorkerAndCore) → IsAnsweredAtOnce old new
+at_once_holds : (kept : CoreState) (old new : WorkerAndCore) → IsAnsweredAtOnce kept old new
     → HasGoneOn (left_in Called old.worker.work old.core) new.worker new.core
-at_once_holds old new is =
+at_once_holds kept old new is =
     answered (left_in Called old.worker.work old.core) new.worker old.worker new.core is.heard None is.worker
 
 called : (old new : WorkerAndCore) (made : Step) → Beginning old made new → Came Called old (Some made) new
@@ -260,9 +260,10 @@ called old new made (begun job number job_is made_is has) =
     goes_by Called old made (step.Begun (Ok number)) new (begun_so old new job number has)
     made_is refl refl
 called old new made (refused why made_is is) =
-    goes_by Called old made (step.Begun (Err why)) new (at_once_holds old new is) made_is refl refl
+    goes_by Called old made (step.Begun (Err why)) new (at_once_holds (unbegun why old.core) old new is)
+    made_is refl refl
 called old new made (replied made_is is) =
-    goes_by Called old made step.Replied new (at_once_holds old new is) made_is refl refl
+    goes_by Called old made step.Replied new (at_once_holds old.core old new is) made_is refl refl
 
 -- ---- a lock request
 
@@ -336,7 +337,7 @@ module _ (old new : WorkerAndCore) (addr : Addr) (mode : Mode) (job : Job) (tx :
   wanted made free (want.Outside back) made_is core phase got seen entry answer =
       goes_by Planning old made _ new (nearer left new.worker new.core _ phase tt (grind (arith)))
       made_is refl refl
-  wanted made free (want.NoMemory back) made_is core phase got seen entry answer =
+  wanted made free (want.NoMemory back error) made_is core phase got seen entry answer =
       goes_by Planning old made _ new (nearer left new.worker new.core _ phase tt (grind (arith)))
       made_is refl refl
 
@@ -385,7 +386,7 @@ module _ (old new : WorkerAndCore) (block : BlockNo) (addr : Addr) (tx : ℕ) (s
   claimed made free (claim.Outside back) made_is core phase seen =
       goes_by Planning old made _ new (nearer left_to_claim new.worker new.core _ phase tt (grind (arith)))
       made_is refl refl
-  claimed made free (claim.NoMemory back) made_is core phase seen =
+  claimed made free (claim.NoMemory back error) made_is core phase seen =
       goes_by Planning old made _ new (nearer left_to_claim new.worker new.core _ phase tt (grind (arith)))
       made_is refl refl
 
@@ -447,8 +448,8 @@ module _ (old new : WorkerAndCore) (tx : ℕ) (job : Job) (done : Outcome) (job_
       (ap (λ m. waits_for_log (Some m)) made_is)
   committed_so made base (commit.Foreign back change) added same free made_is core worker =
       absurd (true≢false (sym (ap (λ m. is_deferred (Some m)) made_is) ∙ free))
-  committed_so made base (commit.NoMemory back change) added same free made_is core worker =
-      refused_so made _ added (commit.NoMemory back change) made_is refl refl
+  committed_so made base (commit.NoMemory back change error) added same free made_is core worker =
+      refused_so made _ added (commit.NoMemory back change error) made_is refl refl
       (ap (λ (s : State). s.phase) worker)
   committed_so made base (commit.Broken back change) added same free made_is core worker =
       refused_so made _ added (commit.Broken back change) made_is refl refl (ap (λ (s : State). s.phase) worker)
@@ -459,7 +460,7 @@ lacked_so : (old new : WorkerAndCore) (tx : ℕ) (made : Step) → HasLacked tx 
     → Came Planning old (Some made) new
 lacked_so old new tx made has =
     goes_by Planning old made _ new (answered (left_in Planning old.worker.work old.core) new.worker
-    (record (with_snap new.worker old.worker) { begun = none_begun }) new.core verdict.NoMemory None has.worker)
+    (record (with_snap new.worker old.worker) { begun = none_begun }) new.core (verdict.NoMemory alloc_error) None has.worker)
     has.made_is refl refl
 
 goes : (old new : WorkerAndCore) (tx : ℕ) (made : Step) (next : Plan) → old.worker.begun.tx ≡ Some tx
@@ -489,7 +490,7 @@ goes old new tx made next tx_is none is taken free goes_so = of_next next is.pla
           planned.1 made (record (with_snap new.worker old.worker) { begun = none_begun }) has.answer _ refl
           free has.made_is has.core has.worker
     ]
-    of_next plan.NoMemory planned lack = lacked_so old new tx made lack
+    of_next (plan.NoMemory error) planned lack = lacked_so old new tx made lack
 
 -- ---- any step
 

@@ -76,7 +76,7 @@ module _ (old new : WorkerAndCore) where
   by_answer tx done next (commit.Committed receipt) is planning spent = absurd (true≢false (sym spent))
   by_answer tx done next (commit.Full back same) is planning spent = absurd (true≢false (sym spent))
   by_answer tx done next (commit.Foreign back same) is planning spent = absurd (true≢false (sym spent))
-  by_answer tx done next (commit.NoMemory back same) is planning spent = absurd (true≢false (sym spent))
+  by_answer tx done next (commit.NoMemory back same error) is planning spent = absurd (true≢false (sym spent))
   by_answer tx done next (commit.Broken back same) is planning spent = absurd (true≢false (sym spent))
 
   given_not : (ok : Bool) (io : Fetch) → FindsIn (Phase.Read ok) (Some (given_step ok io))

@@ -153,11 +153,12 @@ pub record FindsNoNumber (o : Outset) (now : Opened) : Type 0 where
   pub none : 2 ^ 64 ≤ now.core.begun + 1
 
 -- the store was broken when the call began, or a device call failed since; no number of a transaction is left, or
--- no room for the change of this call, which lacks so many blocks of the log's tail; or memory was refused
+-- no room for the change of this call, which lacks so many blocks of the log's tail; or memory was refused since the
+-- call began
 abbrev pub HasCause : Outset → Opened → ℕ → Cause → Type 0
 HasCause o now added cause.Io = HasFailed o.store.core.log o.store.device now.device
 HasCause o now added cause.Spent = FindsNoNumber o now ⊎ FindsNoLogSpace o now added
-HasCause o now added cause.NoMemory = Unit {0}
+HasCause o now added (cause.NoMemory error) = o.store.core.refused < now.core.refused
 
 -- ---- what it answers
 

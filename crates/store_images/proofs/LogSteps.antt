@@ -88,6 +88,7 @@ pub same_transactions : (core : CoreState) → PreservesTransactions core core
 same_transactions core = record {
   inodes = refl;
   begun = refl;
+  refused = refl;
   out = refl;
   taken = λ tx addr. refl;
   fetches = λ block. refl;
@@ -101,6 +102,7 @@ pub only_log : (old new : CoreState) (log_calls inst_calls : ℕ)
 only_log old new log_calls inst_calls is stays = record {
   inodes = ap (λ (c : CoreState). c.inodes) is;
   begun = ap (λ (c : CoreState). c.begun) is;
+  refused = ap (λ (c : CoreState). c.refused) is;
   out = ap (λ (c : CoreState). c.out) is;
   taken = λ tx addr. ap (λ (c : CoreState). taken_by c tx addr) is;
   fetches = λ block. ap (λ (c : CoreState). is_fetching c block) is;

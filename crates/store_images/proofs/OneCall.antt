@@ -54,6 +54,7 @@ back_preserved sides.Log old new io ok back = only_log old new old.log_calls old
 back_preserved sides.Home old new io ok back = record {
   inodes = ap (λ (core : CoreState). core.inodes) back.core;
   begun = ap (λ (core : CoreState). core.begun) back.core;
+  refused = ap (λ (core : CoreState). core.refused) back.core;
   out = ap (λ (core : CoreState). core.out) back.core;
   taken = back.leaves.holds;
   fetches = back.leaves.fetches;
@@ -162,6 +163,7 @@ module _ (is_plan : ℕ → ℕ → List ObjectBytes → List ObjectBytes → Ty
           };
           further = record {
             begun = let same = is_preserved.begun in omega (arith, same);
+            refused = let same = is_preserved.refused in omega (arith, same);
             places = let first = on.0.places in let last = on.1.places in omega (arith, first, last);
             positions = let same = end.positions in omega (arith, same);
             settled = let first = on.0.settled in let last = on.1.settled in omega (arith, first, last);

@@ -99,7 +99,7 @@ module _ (before : Device) (tree : Tree) (first : ℕ) (holds : HoldsTree before
       → CountsCause cause before later
       → IsRefusedFor keeps_model cause before later → IsCauseOf cause before later first
   cause_is keeps_model fault.Device later is_preserved counts shows = counts
-  cause_is keeps_model fault.NoMemory later is_preserved counts shows = counts
+  cause_is keeps_model (fault.NoMemory error) later is_preserved counts shows = counts
   cause_is keeps_model fault.Magic later is_preserved counts shows = elim (shows.1 is_preserved holds.rest.certain) [
     | inl none ↦ absurd (has_blocks before.size (image_of before SUPER_BLOCK) good.super good.is_super
         good.size_is none)
@@ -284,6 +284,7 @@ module _ (before : Device) (tree : Tree) (first : ℕ) (holds : HoldsTree before
         boot = incremented.boot;
         log_calls = log_calls;
         inst_calls = inst_calls;
+        refused = 0;
       } → IsWellFormed core → IsFresh log → log.broken ≡ false → IsCertain now
           → (base : Image) × IsNewOver base later core
       is_new core log_calls inst_calls is well_formed fresh sound uncertain =
@@ -308,6 +309,7 @@ module _ (before : Device) (tree : Tree) (first : ℕ) (holds : HoldsTree before
               records = refl;
               present = refl;
               begun = refl;
+              refused = refl;
               places = fresh.places;
               sound = sound;
               newest = λ super is_super_of.

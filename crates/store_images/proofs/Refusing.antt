@@ -39,7 +39,7 @@ no_super keeps_model fault.Range before later size content none reads same sizes
 )
 no_super keeps_model fault.Log before later size content none reads same sizes read = absurd none
 no_super keeps_model fault.Device before later size content none reads same sizes read = absurd none
-no_super keeps_model fault.NoMemory before later size content none reads same sizes read = absurd none
+no_super keeps_model (fault.NoMemory error) before later size content none reads same sizes read = absurd none
 
 -- so it is whatever was found in it
 pub refused_by : {A : Type 0} (keeps_model : Type 0) (result : Result A OpenFault)
@@ -80,7 +80,7 @@ module _ (keeps_model : Type 0) (before middle later : Device) (found : Super)
     read_later before later (reads_then before middle later first second),
     subst (λ (failures : ℕ). failures < later.failures) same counted,
   )
-  no_log fault.NoMemory none counted same = read_later before later (reads_then before middle later first second)
+  no_log (fault.NoMemory error) none counted same = read_later before later (reads_then before middle later first second)
   no_log fault.Magic none counted same = absurd none
   no_log fault.Version none counted same = absurd none
   no_log fault.Range none counted same = absurd none
@@ -114,4 +114,4 @@ module _ (keeps_model : Type 0) (before middle later : Device) (found : Super)
   ]
   shows_none log is fault.Log shown = shown.1 (is.range, is.homes)
   shows_none log is fault.Device shown = shown
-  shows_none log is fault.NoMemory shown = shown
+  shows_none log is (fault.NoMemory error) shown = shown

@@ -17,6 +17,7 @@ use Rattle.store_images.proofs.Lost.{broken_along}
 pub same_further : (core : CoreState) → IsFurther core core
 same_further core = record {
   begun = omega arith;
+  refused = omega arith;
   places = omega arith;
   positions = omega arith;
   settled = omega arith;
@@ -26,6 +27,7 @@ same_further core = record {
 pub further_then : (a b c : CoreState) → IsFurther a b → IsFurther b c → IsFurther a c
 further_then a b c one two = record {
   begun = let x = one.begun in let y = two.begun in omega (arith, x, y);
+  refused = let x = one.refused in let y = two.refused in omega (arith, x, y);
   places = let x = one.places in let y = two.places in omega (arith, x, y);
   positions = let x = one.positions in let y = two.positions in omega (arith, x, y);
   settled = let x = one.settled in let y = two.settled in omega (arith, x, y);
@@ -38,6 +40,7 @@ pub preserved_then : (a b c : CoreState) → PreservesTransactions a b → Prese
 preserved_then a b c one two = record {
   inodes = two.inodes ∙ one.inodes;
   begun = two.begun ∙ one.begun;
+  refused = two.refused ∙ one.refused;
   out = two.out ∙ one.out;
   taken = λ tx addr. two.taken tx addr ∙ one.taken tx addr;
   fetches = λ block. two.fetches block ∙ one.fetches block;

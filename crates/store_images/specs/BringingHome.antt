@@ -21,7 +21,7 @@ use Rattle.store_promise.specs.Openings.{AtEachStop, IsLater, IsOfAnother}
 
 -- the core, as one in which nothing was begun
 abbrev pub unused : CoreState → CoreState
-unused core = record core { begun = 0; out = []; holds = []; present = []; records = [] }
+unused core = record core { begun = 0; out = []; holds = []; present = []; records = []; refused = 0 }
 
 -- An image that can be opened, whose blocks, with its log laid over them, are those of a first image with the
 -- log of that laid over them, save for the super block, which is this.
@@ -97,7 +97,7 @@ CountsCause fault.Magic before later = later.failures ≡ before.failures
 CountsCause fault.Version before later = later.failures ≡ before.failures
 CountsCause fault.Range before later = later.failures ≡ before.failures
 CountsCause fault.Log before later = later.failures ≡ before.failures
-CountsCause fault.NoMemory before later = later.failures ≡ before.failures
+CountsCause (fault.NoMemory error) before later = later.failures ≡ before.failures
 
 -- a block has no super block of an image of so many blocks that may be opened, and this is what is wrong with
 -- it
@@ -107,13 +107,13 @@ HasNoSuper fault.Version size content = IsNoSuper content layout_fault.Version
 HasNoSuper fault.Range size content = IsNoSuper content layout_fault.Range ⊎ IsOfAnother size content
 HasNoSuper fault.Log size content = ⊥
 HasNoSuper fault.Device size content = ⊥
-HasNoSuper fault.NoMemory size content = ⊥
+HasNoSuper (fault.NoMemory error) size content = ⊥
 
 -- an image of so many blocks has no log, if only it could be read, or a call failed
 abbrev pub HasNoLog : Type 0 → OpenFault → ℕ → Image → Type 0
 HasNoLog was_read fault.Log size image = was_read → IsInRange image → HasHomes size image → ⊥
 HasNoLog was_read fault.Device size image = ⊤
-HasNoLog was_read fault.NoMemory size image = ⊤
+HasNoLog was_read (fault.NoMemory error) size image = ⊤
 HasNoLog was_read fault.Magic size image = ⊥
 HasNoLog was_read fault.Version size image = ⊥
 HasNoLog was_read fault.Range size image = ⊥

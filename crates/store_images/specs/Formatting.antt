@@ -59,7 +59,7 @@ HasFormatted old inodes moment (Err fault.Inodes) new =
     IsLawfulSize old.size × (¬ IsLawfulCount old.size inodes) × (new ≡ old)
 HasFormatted old inodes moment (Err fault.Device) new =
     IsLawful old.size inodes × (new.size ≡ old.size) × (new.failures ≡ old.failures + 1)
-HasFormatted old inodes moment (Err fault.NoMemory) new = IsLawful old.size inodes × (new ≡ old)
+HasFormatted old inodes moment (Err (fault.NoMemory error)) new = IsLawful old.size inodes × (new ≡ old)
 
 -- the first block is blank, whenever a crash comes
 abbrev pub IsBlank : Device → Type 0
@@ -78,4 +78,4 @@ LeavesByFormat old inodes moment (Err fault.Device) new = (g : Geometry) × (g.b
     × (g.inodes ≡ inodes) × HasFailedToFormat old new g moment × (g.version ≡ Second)
 LeavesByFormat old inodes moment (Err fault.Size) new = new ≡ old
 LeavesByFormat old inodes moment (Err fault.Inodes) new = new ≡ old
-LeavesByFormat old inodes moment (Err fault.NoMemory) new = new ≡ old
+LeavesByFormat old inodes moment (Err (fault.NoMemory error)) new = new ≡ old

@@ -16,9 +16,10 @@ use Rattle.store_images.specs.Settling.{HasBroken}
 abbrev pub end_of : Log → ℕ
 end_of log = log.start + length log.changes
 
--- what is settled stays settled, what is broken stays broken, and no number is given back
+-- what is settled stays settled, what is broken stays broken, no number is given back, and no refusal is forgotten
 pub record IsFurther (old new : CoreState) : Type 0 where
   pub begun : old.begun ≤ new.begun
+  pub refused : old.refused ≤ new.refused
   pub places : old.log.places ≤ new.log.places
   pub positions : end_of old.log ≤ end_of new.log
   pub settled : settled_place old.log ≤ settled_place new.log

@@ -1,5 +1,5 @@
 //! Making an image: the order of its device calls. What its blocks hold is `layout`'s.
-ghost use Rattle.std.specs.Prelude.{◌≡◌, ◌≤◌, ◌<◌, OnOk, replicate};
+ghost use Rattle.std.specs.Prelude.{◌≡◌, ◌≤◌, ◌<◌, OnOk, alloc_error, replicate};
 ghost use Rattle.disk.specs.Blocks.{AreBlocks};
 ghost use Rattle.disk.specs.Crash.{IsAtRest};
 ghost use Rattle.disk.specs.Device.{CountsFailure, Device, HasWritten};
@@ -29,18 +29,18 @@ pub enum FormatFault {
     /// A call of the device failed.
     #[error("Device")]
     Device,
-    /// An allocation failed.
+    /// An allocation failed: it bears the refusal.
     #[error("NoMemory")]
-    NoMemory,
+    NoMemory(AllocError),
 }
 
 impl From<AllocError> for FormatFault {
     ghost use Rattle.store_images.specs.declared.formatter.FormatFault.TheVariants.{NoMemory};
 
-    ghost from_gives = { λ _ fault. fault ≡ NoMemory };
+    ghost from_gives = { λ _ fault. fault ≡ NoMemory alloc_error };
 
-    fn from(_: AllocError) -> FormatFault {
-        FormatFault::NoMemory
+    fn from(error: AllocError) -> FormatFault {
+        FormatFault::NoMemory(error)
     }
 }
 

@@ -1,6 +1,6 @@
 //! Opening a store: what a crash left in the log is brought home, and the boot number rises.
 ghost use Rattle.std.specs.Prelude.{◌≡◌, ◌+◌, ◌^◌, ◌<◌, IfErr, IfOk, IsFalse, IsTrue, MatchResult, OnOk, []};
-ghost use Rattle.std.specs.Prelude.{ℕ, ◌≤◌, length};
+ghost use Rattle.std.specs.Prelude.{ℕ, ◌≤◌, alloc_error, length};
 ghost use Rattle.std.specs.Prelude.{◌⊎◌, Ok, Err, Some, None, true, false};
 ghost use Rattle.base.specs.declared.TheConstants.{BLOCK_BYTES, FIRST_HOME_BLOCK, SUPER_BLOCK};
 ghost use Rattle.disk.specs.Crash.{IsAtRest};
@@ -24,7 +24,7 @@ use circ::LogFault;
 use disk::{Block, BlockNo, CrashDisk, Failed, Side};
 use layout::{LayoutFault, Super};
 use procs::Done;
-use std::alloc::{AllocError, Global};
+use std::alloc::Global;
 use store_promise::OpenFault;
 use txn::Core;
 use wal::Wal;
@@ -93,9 +93,7 @@ fn recover<D: CrashDisk>(alloc: Global, disk: &mut D) -> Result<(Core<Done>, u64
         (λ cause. Opens (D.device disk.old) (Err (D.device disk.new, cause)) tree first) }
     ensures model { D.keeps_model disk.new → D.keeps_model disk.old }
 {
-    let Ok(mut block) = Block::zeros(alloc) else {
-        return Err(OpenFault::NoMemory);
-    };
+    let mut block = Block::zeros(alloc)?;
     let (found, wal) = match find(alloc, disk, &mut block) {
         Ok(found) => found,
         Err(fault) => return Err(fault),
@@ -166,11 +164,11 @@ fn find_log<D: CrashDisk>(alloc: Global, disk: &mut D, blocks: u32) -> Result<Wa
     match circ::recover(alloc, disk) {
         Ok(log) => match Wal::new(alloc, blocks, log) {
             Ok(wal) => Ok(wal),
-            Err(AllocError) => Err(OpenFault::NoMemory),
+            Err(error) => Err(OpenFault::NoMemory(error)),
         },
         Err(LogFault::Range | LogFault::Address) => Err(OpenFault::Log),
         Err(LogFault::Device) => Err(OpenFault::Device),
-        Err(LogFault::NoMemory) => Err(OpenFault::NoMemory),
+        Err(LogFault::NoMemory(error)) => Err(OpenFault::NoMemory(error)),
     }
 }
 
@@ -293,7 +291,7 @@ fn increment<D: CrashDisk>(
     ensures later { IsLater (D.device disk.old) (D.device disk.new) }
     ensures failure { MatchResult result (λ _. (D.device disk.new).failures ≡ (D.device disk.old).failures)
         (λ cause. ((cause ≡ OpenFault.Device) × ((D.device disk.old).failures < (D.device disk.new).failures))
-        ⊎ ((cause ≡ OpenFault.NoMemory) × (D.device disk.new ≡ D.device disk.old))) }
+        ⊎ ((cause ≡ OpenFault.NoMemory alloc_error) × (D.device disk.new ≡ D.device disk.old))) }
     ensures incremented { (before : Device) (log : Log) → IsLawfulLog log → log.changes ≡ []
         → BringsHome before (super_bytes incremented) (D.device disk.old) log
         → MatchResult result (λ _. HasIncremented before (super_bytes incremented) (D.device disk.old)
@@ -301,9 +299,7 @@ fn increment<D: CrashDisk>(
         (λ cause. PreservesBlocks before (D.device disk.new) (super_bytes incremented)) }
     ensures model { D.keeps_model disk.new → D.keeps_model disk.old }
 {
-    let Ok(bytes) = incremented.write(alloc) else {
-        return Err(OpenFault::NoMemory);
-    };
+    let bytes = incremented.write(alloc)?;
     put_whole(block, &bytes);
     match put_super(disk, block) {
         Ok(()) => Ok(()),

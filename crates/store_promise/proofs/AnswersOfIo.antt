@@ -1,5 +1,5 @@
 -- An answer of IO has a device call before it that failed, which the steps tell.
-use Rattle.std.proofs.Common.{◌≡◌, ◌⊎◌, inl, inr, ℕ, zero, suc, ◌<◌, ◌≤◌, ap, sym, ◌∙◌, refl, subst, arith}
+use Rattle.std.proofs.Common.{◌≡◌, ◌⊎◌, inl, inr, ℕ, zero, suc, ◌<◌, ◌≤◌, ap, sym, ◌∙◌, refl, subst, arith, alloc_error}
 use Rattle.std.proofs.Common.{Bool, true, false, ◌||◌, if◌then◌else◌, List, [], ◌∷◌, map, length, slice_get}
 use Rattle.std.proofs.Common.{Option, Some, None, Result, Ok, Err}
 use Rattle.std.proofs.lemmas.Bool.{cases_lt}
@@ -252,23 +252,23 @@ module _ (t : Transcript) (a : Answer) (response : Reply) (is : a.verdict ≡ ve
       → a.verdict ≡ verdict.Reply (refused other asked) → ⊥
   not_refused other asked never so = not_io other asked never (tells (refused other asked) so)
 
-  no_memory : a.verdict ≡ verdict.NoMemory → ⊥
+  no_memory : a.verdict ≡ verdict.NoMemory alloc_error → ⊥
   no_memory so =
-      let same : verdict.Reply response ≡ verdict.NoMemory = sym is ∙ so in cc
+      let same : verdict.Reply response ≡ verdict.NoMemory alloc_error = sym is ∙ so in cc
 
   by_begun : (now : RunState) (ruled : Bool) (asked : Call) (why : BeginFault)
       → IsStepOfCalled now ruled (step.Begun (Err why)) → a.verdict ≡ refusal asked (cause_of why)
       → now.log.broken ≡ true
   by_begun now true asked fault.Broken may so = may
   by_begun now true asked fault.Spent may so = absurd (not_refused status.ServerFault asked refl so)
-  by_begun now true asked fault.NoMemory may so = absurd (no_memory so)
+  by_begun now true asked (fault.NoMemory error) may so = absurd (no_memory so)
   by_begun now false asked why may so = cc
 
   by_refused : (job : Job) (begun : Begun) (why : Cause) → a.verdict ≡ refusal job.call why
       → shows (At job (Refused begun why)) ≡ true
   by_refused job begun cause.Io so = refl
   by_refused job begun cause.Spent so = absurd (not_refused status.ServerFault job.call refl so)
-  by_refused job begun cause.NoMemory so = absurd (no_memory so)
+  by_refused job begun (cause.NoMemory error) so = absurd (no_memory so)
 
   by_waiting : (job : Job) (broken : Bool) (place : ℕ)
       → is_idle (going_on job (if false || broken then None else Some (Waiting place))) ≡ true → broken ≡ true
@@ -286,7 +286,7 @@ module _ (t : Transcript) (a : Answer) (response : Reply) (is : a.verdict ≡ ve
         inr (by_begun now (begins_transaction job.call) job.call why may has.1)
     by_verdict (Planning begun) (step.Commit blocks (committing.Committed place)) has may ends =
         absurd (none place.0 has.entry has.is_entry (tells has.entry.reply has.is_replied))
-    by_verdict (Planning begun) (step.Ended ending.NoMemory) has may ends = absurd (no_memory has.1)
+    by_verdict (Planning begun) (step.Ended (ending.NoMemory error)) has may ends = absurd (no_memory has.1)
     by_verdict (Refused begun why) (step.Ended ending.Refused) has may ends =
         inl (by_refused job begun why has.1)
     by_verdict (Waiting place) (step.Stable seq true) has may ends =

@@ -207,7 +207,7 @@ module _ (g : Geometry) where
   by_wanted begun taken lock_answer.Busy next is are = off begun (lock_request_of taken) is are
   by_wanted begun taken lock_answer.Loading next is are = off begun (lock_request_of taken) is are
   by_wanted begun taken lock_answer.Outside next is are = are
-  by_wanted begun taken lock_answer.NoMemory next is are = are
+  by_wanted begun taken (lock_answer.NoMemory error) next is are = are
 
   by_claimed : (begun : Begun) (block : BlockNo) (answer : LockAnswer) → IsNext (lock_request.Claim block) begun.left
       → IsLockRequest g (lock_request.Claim block) → AreTakenBy g begun → AreTakenAt g (after_claimed begun block answer)
@@ -216,7 +216,7 @@ module _ (g : Geometry) where
   by_claimed begun block lock_answer.Busy next is are = off begun (lock_request.Claim block) is are
   by_claimed begun block lock_answer.Loading next is are = off begun (lock_request.Claim block) is are
   by_claimed begun block lock_answer.Outside next is are = are
-  by_claimed begun block lock_answer.NoMemory next is are = are
+  by_claimed begun block (lock_answer.NoMemory error) next is are = are
 
   by_commit : (stable : Bool) (begun : Begun) (answer : Committing) → AreTakenBy g begun
       → At' (after_commit stable begun answer)
@@ -224,7 +224,7 @@ module _ (g : Geometry) where
   by_commit false begun (committing.Committed place) are = tt
   by_commit stable begun committing.Full are = are
   by_commit stable begun committing.Foreign are = (are, tt)
-  by_commit stable begun committing.NoMemory are = are
+  by_commit stable begun (committing.NoMemory error) are = are
   by_commit stable begun committing.Broken are = are
   by_commit stable begun committing.Spent are = are
 

@@ -81,7 +81,7 @@ module _ (o : Setting) (run_state : RunState) (worker : ℕ) where
     by_plan begun at left (step.Wanted addr mode answer) is = Take job begun addr mode answer at left is.0 is.1 refl
     by_plan begun at left (step.Claimed block answer) is = Claim job begun block answer at left is.0 is.1 refl
     by_plan begun at left (step.Commit blocks answer) is = Commit job begun blocks answer at left is.0 is.1 refl
-    by_plan begun at left (step.Ended ending.NoMemory) is = Lack job begun at left refl
+    by_plan begun at left (step.Ended (ending.NoMemory error)) is = Lack job begun at left refl
     by_plan begun at left _ is = absurd is
 
     again : (begun : Begun) → so_far ≡ At job (Planning begun) → (next : LockRequest) (later : List LockRequest)

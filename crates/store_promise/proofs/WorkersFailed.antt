@@ -146,7 +146,7 @@ module _ (o : Setting) (run_state : RunState) (worker : ℕ) (job : Job) where
     by_wanted addr mode lock_answer.Busy is so = off (lock_request.Object addr mode) so
     by_wanted addr mode lock_answer.Loading is so = off (lock_request.Object addr mode) so
     by_wanted addr mode lock_answer.Outside is so = is
-    by_wanted addr mode lock_answer.NoMemory is so = cc
+    by_wanted addr mode (lock_answer.NoMemory error) is so = cc
 
     by_claimed : (block : BlockNo) (answer : LockAnswer) → IsClaimAnswer run_state worker begun block answer
         → shows (going_on job (after_planning (is_answered_stable job.call) begun (step.Claimed block answer)))
@@ -156,7 +156,7 @@ module _ (o : Setting) (run_state : RunState) (worker : ℕ) (job : Job) where
     by_claimed block lock_answer.Busy is so = off (lock_request.Claim block) so
     by_claimed block lock_answer.Loading is so = off (lock_request.Claim block) so
     by_claimed block lock_answer.Outside is so = is
-    by_claimed block lock_answer.NoMemory is so = cc
+    by_claimed block (lock_answer.NoMemory error) is so = cc
 
     committed : (stable : Bool) (place : ℕ)
         → shows (going_on job (if stable then Some (Waiting place) else None)) ≡ true → ⊥
@@ -168,7 +168,7 @@ module _ (o : Setting) (run_state : RunState) (worker : ℕ) (job : Job) where
     by_commit stable blocks (committing.Committed place) is so = absurd (committed stable place.0 so)
     by_commit stable blocks committing.Full is so = cc
     by_commit stable blocks committing.Foreign is so = cc
-    by_commit stable blocks committing.NoMemory is so = cc
+    by_commit stable blocks (committing.NoMemory error) is so = cc
     by_commit stable blocks committing.Broken is so = is
     by_commit stable blocks committing.Spent is so = cc
 

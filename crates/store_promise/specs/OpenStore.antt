@@ -67,7 +67,7 @@ abbrev pub IsSettledOf : Log → ℕ → Type 0
 IsSettledOf log place = place ≤ settled_place log - installed_place log
 
 -- What an opening is to leave of a core, over what is at home: the device agrees with it, nothing is in the log
--- or in memory, no commit was made, no transaction begun, and nothing has failed.
+-- or in memory, no commit was made, no transaction begun, no memory refused to one, and nothing has failed.
 pub record IsNewOver (base : Image) (d : Device) (core : CoreState) : Type 0 where
   pub lawful : IsLawful core.log
   pub agrees : AgreesWithPending d base core.log idle idle
@@ -78,6 +78,7 @@ pub record IsNewOver (base : Image) (d : Device) (core : CoreState) : Type 0 whe
   pub records : core.records ≡ []
   pub present : core.present ≡ []
   pub begun : core.begun ≡ 0
+  pub refused : core.refused ≡ 0
   pub places : core.log.places ≡ 0
   pub sound : core.log.broken ≡ false
   pub newest : (super : Super) → IsSuper (base SUPER_BLOCK) super → super.geometry.version ≡ Second

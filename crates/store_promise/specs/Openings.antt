@@ -72,7 +72,7 @@ pub record IsOpened (before opened : Device) (tree : Tree) (first position : ℕ
 abbrev pub IsCauseOf : OpenFault → Device → Device → ℕ → Type 0
 IsCauseOf fault.Device before later first = before.failures < later.failures
 IsCauseOf fault.Range before later first = (2 ^ 64 ≤ first + 1) × (later.failures ≡ before.failures)
-IsCauseOf fault.NoMemory before later first = later.failures ≡ before.failures
+IsCauseOf (fault.NoMemory error) before later first = later.failures ≡ before.failures
 IsCauseOf fault.Magic before later first = ⊥
 IsCauseOf fault.Version before later first = ⊥
 IsCauseOf fault.Log before later first = ⊥
@@ -104,7 +104,7 @@ IsShownBy fault.Range size image = IsNoSuper (image SUPER_BLOCK) layout_fault.Ra
 IsShownBy fault.Log size image = HasBootLeft size (image SUPER_BLOCK)
     × ((IsInRange image × HasHomes size image) → ⊥)
 IsShownBy fault.Device size image = ⊥
-IsShownBy fault.NoMemory size image = ⊥
+IsShownBy (fault.NoMemory error) size image = ⊥
 
 -- calls were made, none of which failed, and no block has changed
 pub record WasOnlyRead (before later : Device) : Type 0 where
@@ -116,7 +116,7 @@ pub record WasOnlyRead (before later : Device) : Type 0 where
 -- device keeps its model and no write of it has failed.
 abbrev pub IsRefusedFor : Type 0 → OpenFault → Device → Device → Type 0
 IsRefusedFor keeps_model fault.Device before later = IsLater before later × (before.failures < later.failures)
-IsRefusedFor keeps_model fault.NoMemory before later = IsLater before later
+IsRefusedFor keeps_model (fault.NoMemory error) before later = IsLater before later
 IsRefusedFor keeps_model cause before later = WasOnlyRead before later
     × (keeps_model → IsCertain before → IsShownBy cause before.size (image_of before))
 

@@ -136,7 +136,7 @@ after_wanted begun taken lock_answer.Fetch = Reading (with_taken begun (lock_req
 after_wanted begun taken lock_answer.Busy = deferred begun (lock_request_of taken)
 after_wanted begun taken lock_answer.Loading = deferred begun (lock_request_of taken)
 after_wanted begun taken lock_answer.Outside = Refused begun cause.Io
-after_wanted begun taken lock_answer.NoMemory = Refused begun cause.NoMemory
+after_wanted begun taken (lock_answer.NoMemory error) = Refused begun (cause.NoMemory error)
 
 abbrev pub after_claimed : Begun → BlockNo → LockAnswer → Stage
 after_claimed begun block lock_answer.Held = Planning (with_claimed begun block)
@@ -144,14 +144,14 @@ after_claimed begun block lock_answer.Fetch = Planning begun
 after_claimed begun block lock_answer.Busy = deferred begun (lock_request.Claim block)
 after_claimed begun block lock_answer.Loading = deferred begun (lock_request.Claim block)
 after_claimed begun block lock_answer.Outside = Refused begun cause.Io
-after_claimed begun block lock_answer.NoMemory = Refused begun cause.NoMemory
+after_claimed begun block (lock_answer.NoMemory error) = Refused begun (cause.NoMemory error)
 
 -- None where the call is answered with the step. A commit that found the log full is tried again.
 abbrev pub after_commit : Bool → Begun → Committing → Option Stage
 after_commit stable begun (committing.Committed place) = if stable then Some (Waiting place.0) else None
 after_commit stable begun committing.Full = Some (Planning begun)
 after_commit stable begun committing.Foreign = Some (Again begun None)
-after_commit stable begun committing.NoMemory = Some (Refused begun cause.NoMemory)
+after_commit stable begun (committing.NoMemory error) = Some (Refused begun (cause.NoMemory error))
 after_commit stable begun committing.Broken = Some (Refused begun cause.Io)
 after_commit stable begun committing.Spent = Some (Refused begun cause.Spent)
 

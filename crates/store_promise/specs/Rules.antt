@@ -1,5 +1,5 @@
 -- The steps of a run as rules: who makes a step, when, and which. The premises of a rule stand before its last line.
-use Rattle.std.specs.Prelude.{◌≡◌, ℕ, Bool, true, false, nat_le, List, [], ◌∷◌, Option, Some, None}
+use Rattle.std.specs.Prelude.{◌≡◌, ℕ, Bool, true, false, nat_le, List, [], ◌∷◌, Option, Some, None, alloc_error}
 use Rattle.disk.specs.declared.block.BlockNo.{BlockNo}
 use Rattle.nfs_types.specs.declared.call.Call.{Call}
 use Rattle.nfs_types.specs.declared.ctx.Credential.{Credential}
@@ -59,7 +59,7 @@ pub data WorkerStep (o : Setting) (run_state : RunState) (worker : ℕ) (so_far 
       → AreChanged begun blocks → IsCommitting o run_state.log blocks answer
       → made ≡ step.Commit blocks answer → WorkerStep o run_state worker so_far made
   Lack : (job : Job) (begun : Begun) → so_far ≡ At job (Planning begun) → begun.left ≡ []
-      → made ≡ step.Ended ending.NoMemory → WorkerStep o run_state worker so_far made
+      → made ≡ step.Ended (ending.NoMemory alloc_error) → WorkerStep o run_state worker so_far made
   -- A block that was read is given back, with what was read or without.
   Fetch : (job : Job) (begun : Begun) (taken : Taken) → so_far ≡ At job (how.Read begun taken true)
       → made ≡ step.Fetched taken.addr.block → WorkerStep o run_state worker so_far made

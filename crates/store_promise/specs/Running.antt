@@ -86,10 +86,12 @@ pub record IsMovedAlong (old : Device) (steps : List (Option Step)) (new : Devic
   pub failures : new.failures ≡ old.failures + count_by fails steps
   pub failures_match : TellEachFailure new.failed old.clock steps
 
--- what transactions have taken, read and are fetching is what it was, and what they have taken stays in memory
+-- what transactions have taken, read and are fetching is what it was, what they have taken stays in memory, and no
+-- memory is refused to them
 pub record PreservesTransactions (old new : CoreState) : Type 0 where
   pub inodes : new.inodes ≡ old.inodes
   pub begun : new.begun ≡ old.begun
+  pub refused : new.refused ≡ old.refused
   pub out : new.out ≡ old.out
   pub taken : (tx : ℕ) (addr : Addr) → taken_by new tx addr ≡ taken_by old tx addr
   pub fetches : (block : BlockNo) → is_fetching new block ≡ is_fetching old block
@@ -101,10 +103,12 @@ pub record PreservesTransactions (old new : CoreState) : Type 0 where
 abbrev pub store_log_state : ℕ → StoreState → LogState
 store_log_state position side = log_state_of position side.core.log side.logging side.installing
 
--- What is told of the log, and of the count of transactions, is what the store has.
+-- What is told of the log, of the count of transactions, and of how often memory was refused to them, is what the store
+-- has. So a step is told NoMemory just where memory was refused in it.
 pub record IsRunState (o : Setting) (run_state : RunState) (side : StoreState) : Type 0 where
   pub log : run_state.log ≡ store_log_state o.position side
   pub begun : run_state.begun ≡ side.core.begun
+  pub refused : run_state.refused ≡ side.core.refused
 
 -- what is told after a step, or after none
 abbrev pub next_log_state : LogState → Option Step → LogState

@@ -53,15 +53,16 @@ SoundEvent event.InstIo = Unit {0}
 abbrev pub SoundEvents : Schedule → Type 0
 SoundEvents events = (index : ℕ) (event : Event) → slice_get events index ≡ Some event → SoundEvent event
 
--- what is told of the workers, of the count of transactions, and of the log
+-- what is told of the workers, of the counts of transactions and of refusals of memory, and of the log
 pub record RunState : Type 0 where
   pub workers : ℕ → Progress
   pub begun : ℕ
+  pub refused : ℕ
   pub log : LogState
 
 -- before the first event
 abbrev pub at_first : RunState
-at_first = record { workers = λ worker. Idle; begun = 0; log = empty_log }
+at_first = record { workers = λ worker. Idle; begun = 0; refused = 0; log = empty_log }
 
 -- the workers, of whom this one is so far
 abbrev pub with_worker : (ℕ → Progress) → ℕ → Progress → ℕ → Progress
@@ -85,12 +86,27 @@ abbrev pub begun_after : ℕ → Step → ℕ
 begun_after begun (step.Begun (Ok number)) = begun + 1
 begun_after begun _ = begun
 
+-- the count of refusals rises by one with each step that is told NoMemory, and with no other
+abbrev pub refused_after : ℕ → Step → ℕ
+refused_after refused (step.Begun (Err (fault.NoMemory error))) = refused + 1
+refused_after refused (step.Wanted addr mode (lock_answer.NoMemory error)) = refused + 1
+refused_after refused (step.Claimed block (lock_answer.NoMemory error)) = refused + 1
+refused_after refused (step.Commit blocks (committing.NoMemory error)) = refused + 1
+refused_after refused (step.Ended (ending.NoMemory error)) = refused + 1
+refused_after refused _ = refused
+
+-- so it is after a step, or after none
+abbrev pub next_refused : ℕ → Option Step → ℕ
+next_refused refused None = refused
+next_refused refused (Some made) = refused_after refused made
+
 -- what is told after an event, which made a step or none
 abbrev pub state_after : RunState → Event → Option Step → RunState
 state_after run_state event None = run_state
 state_after run_state event (Some made) = record {
   workers = workers_after run_state event made;
   begun = begun_after run_state.begun made;
+  refused = refused_after run_state.refused made;
   log = log_moved run_state.log made;
 }
 
@@ -111,7 +127,8 @@ abbrev pub IsBeginning : RunState → Step → Type 0
 IsBeginning run_state (step.Begun (Ok number)) = (run_state.log.broken ≡ false) × (number ≡ run_state.begun + 1)
 IsBeginning run_state (step.Begun (Err fault.Broken)) = run_state.log.broken ≡ true
 IsBeginning run_state (step.Begun (Err fault.Spent)) = (run_state.log.broken ≡ false) × (2 ^ 64 ≤ run_state.begun + 1)
-IsBeginning run_state (step.Begun (Err fault.NoMemory)) = (run_state.log.broken ≡ false) × (run_state.begun + 1 < 2 ^ 64)
+IsBeginning run_state (step.Begun (Err (fault.NoMemory error))) =
+    (run_state.log.broken ≡ false) × (run_state.begun + 1 < 2 ^ 64)
 IsBeginning run_state _ = ⊥
 
 -- a call begins a transaction, and NULL is answered
@@ -167,7 +184,7 @@ IsLockAnswer run_state worker begun request lock_answer.Fetch =
     × IsSoOfNoOther run_state worker (has_loaded request.block)
 IsLockAnswer run_state worker begun request lock_answer.Loading = IsSoOfAnother run_state worker (is_fetching request.block)
 IsLockAnswer run_state worker begun request lock_answer.Outside = ⊥
-IsLockAnswer run_state worker begun request lock_answer.NoMemory = IsLeftFree run_state worker request
+IsLockAnswer run_state worker begun request (lock_answer.NoMemory error) = IsLeftFree run_state worker request
 
 -- what is asked for with an object, and with a whole block
 abbrev pub range_request_at : Addr → Mode → RangeRequest
@@ -197,7 +214,7 @@ IsCommitting o log blocks committing.Foreign = ⊥
 IsCommitting o log blocks committing.Spent = (log.broken ≡ false) × (HasNumbers o log blocks → ⊥)
 IsCommitting o log blocks committing.Full =
     (log.broken ≡ false) × HasNumbers o log blocks × (LOG_SLOTS < state_tail_after log blocks)
-IsCommitting o log blocks committing.NoMemory =
+IsCommitting o log blocks (committing.NoMemory error) =
     (log.broken ≡ false) × HasNumbers o log blocks × (state_tail_after log blocks ≤ LOG_SLOTS)
 
 -- The blocks that a commit of the transaction may name: each once, no more than a transaction may change, and each one
@@ -217,7 +234,7 @@ IsStepByPlan o run_state worker begun (step.Claimed block answer) =
     IsClaimAskedFor o begun block × IsClaimAnswer run_state worker begun block answer
 IsStepByPlan o run_state worker begun (step.Commit blocks answer) =
     AreChanged begun blocks × IsCommitting o run_state.log blocks answer
-IsStepByPlan o run_state worker begun (step.Ended ending.NoMemory) = Unit {0}
+IsStepByPlan o run_state worker begun (step.Ended (ending.NoMemory error)) = Unit {0}
 IsStepByPlan o run_state worker begun _ = ⊥
 
 -- what its call knew is taken again first, in its order, and answered as any lock request is

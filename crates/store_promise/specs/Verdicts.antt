@@ -56,13 +56,13 @@ pub record IsCoveredWrite (t : Transcript) (answer : Answer) (place : ℕ) : Typ
 abbrev pub cause_of : BeginFault → Cause
 cause_of fault.Broken = cause.Io
 cause_of fault.Spent = cause.Spent
-cause_of fault.NoMemory = cause.NoMemory
+cause_of (fault.NoMemory error) = cause.NoMemory error
 
 -- what a call is answered that is refused for a cause
 abbrev pub refusal : Call → Cause → Verdict
 refusal asked cause.Io = verdict.Reply (refused status.Io asked)
 refusal asked cause.Spent = verdict.Reply (refused status.ServerFault asked)
-refusal asked cause.NoMemory = verdict.NoMemory
+refusal asked (cause.NoMemory error) = verdict.NoMemory error
 
 -- the answer is of no procedure
 abbrev pub IsOfNone : Verdict → Answer → Type 0
@@ -87,7 +87,7 @@ abbrev pub HasVerdict : Transcript → Call → Stage → Step → Answer → Ty
 HasVerdict t asked (Called known) step.Replied a = IsOfNone (verdict.Reply Null) a
 HasVerdict t asked (Called known) (step.Begun (Err why)) a = IsOfNone (refusal asked (cause_of why)) a
 HasVerdict t asked (Planning begun) (step.Commit blocks (committing.Committed place)) a = IsReplyAt t place a
-HasVerdict t asked (Planning begun) (step.Ended ending.NoMemory) a = IsOfNone verdict.NoMemory a
+HasVerdict t asked (Planning begun) (step.Ended (ending.NoMemory error)) a = IsOfNone (verdict.NoMemory error) a
 HasVerdict t asked (Refused begun why) (step.Ended ending.Refused) a = IsOfNone (refusal asked why) a
 HasVerdict t asked (Waiting place) (step.Stable seq true) a = IsReplyAt t (record { 0 = place }) a
 HasVerdict t asked (Waiting place) (step.Stable seq false) a = IsUnsettledAt asked (record { 0 = place }) a

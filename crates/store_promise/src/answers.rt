@@ -1,13 +1,14 @@
 //! What a worker gives.
 
 use nfs_types::{Call, Ctx, Reply};
+use std::alloc::AllocError;
 use txn::Seq;
 
-/// What a call is answered: a reply of its procedure, or that memory was refused.
+/// What a call is answered: a reply of its procedure, or that memory was refused, with that refusal.
 #[derive(Drop)]
 pub enum Verdict {
     Reply(Reply),
-    NoMemory,
+    NoMemory(AllocError),
 }
 
 /// An answer, with the place of its procedure, if that was committed.

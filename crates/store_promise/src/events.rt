@@ -8,6 +8,7 @@ use circ::IoCall;
 use disk::BlockNo;
 use nfs_types::{Call, Credential, Moment};
 use objects::{Addr, Mode};
+use std::alloc::AllocError;
 use std::marker::Model;
 use std::snapshot::Snapshot;
 use txn::{BeginFault, Seq};
@@ -36,7 +37,7 @@ pub enum Event {
     InstIo,
 }
 
-/// What a lock request of a transaction was answered.
+/// What a lock request of a transaction was answered. NoMemory bears the refusal.
 #[derive(Clone, Copy, Debug, PartialEq, Eq)]
 pub enum LockAnswer {
     Held,
@@ -44,16 +45,16 @@ pub enum LockAnswer {
     Fetch,
     Loading,
     Outside,
-    NoMemory,
+    NoMemory(AllocError),
 }
 
-/// What a commit was answered: its place, or why it is refused.
+/// What a commit was answered: its place, or why it is refused. NoMemory bears the refusal.
 #[derive(Clone, Copy, Debug, PartialEq, Eq)]
 pub enum Committing {
     Committed(Seq),
     Full,
     Foreign,
-    NoMemory,
+    NoMemory(AllocError),
     Broken,
     Spent,
 }
@@ -91,8 +92,8 @@ pub enum Cause {
     Io,
     /// A counter is spent.
     Spent,
-    /// An allocation failed.
-    NoMemory,
+    /// An allocation failed: it bears the refusal.
+    NoMemory(AllocError),
 }
 
 /// Why a transaction is ended without a change.
@@ -102,8 +103,8 @@ pub enum Ending {
     Again,
     /// A step of it was refused, or its read failed.
     Refused,
-    /// The worker found no memory to plan with.
-    NoMemory,
+    /// The worker found no memory to plan with: it bears the refusal.
+    NoMemory(AllocError),
 }
 
 /// The step that an event made: a method of the core with what it was asked and answered, a device call with

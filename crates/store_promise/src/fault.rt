@@ -1,5 +1,6 @@
 //! Why a store isn't opened.
 
+use std::alloc::AllocError;
 use thiserror::Error;
 
 /// Why an image isn't opened.
@@ -21,7 +22,18 @@ pub enum OpenFault {
     /// A call of the device failed.
     #[error("Device")]
     Device,
-    /// An allocation failed.
+    /// An allocation failed: it bears the refusal.
     #[error("NoMemory")]
-    NoMemory,
+    NoMemory(AllocError),
+}
+
+impl From<AllocError> for OpenFault {
+    ghost use Rattle.std.specs.Prelude.{◌≡◌, alloc_error};
+    ghost use Rattle.store_promise.specs.declared.fault.OpenFault.TheVariants.{NoMemory};
+
+    ghost from_gives = { λ _ fault. fault ≡ NoMemory alloc_error };
+
+    fn from(error: AllocError) -> OpenFault {
+        OpenFault::NoMemory(error)
+    }
 }

@@ -1,5 +1,5 @@
 //! Laws on openings that are refused: each only for a cause, which is one.
-ghost use Rattle.std.specs.Prelude.{◌≡◌, ℕ, ◌+◌, ◌<◌, ◌^◌, None};
+ghost use Rattle.std.specs.Prelude.{◌≡◌, ℕ, ◌+◌, ◌<◌, ◌^◌, None, alloc_error};
 ghost use Rattle.disk.specs.Crash.{Image};
 ghost use Rattle.disk.specs.Device.{Device};
 ghost use Rattle.nfs_spec.specs.Model.Tree.{Tree};
@@ -39,7 +39,7 @@ pub fn a_good_image_is_refused_for_a_cause()
     ensures device { (before later : Device) (tree : Tree) (first : ℕ) → later.failures ≡ before.failures
         → IsRefused before later tree first fault.Device → ⊥ }
     ensures memory { (before later : Device) (tree : Tree) (first : ℕ) → before.failures < later.failures
-        → IsRefused before later tree first fault.NoMemory → ⊥ }
+        → IsRefused before later tree first (fault.NoMemory alloc_error) → ⊥ }
     ensures range { (before later : Device) (tree : Tree) (first : ℕ) → first + 1 < 2 ^ 64
         → IsRefused before later tree first fault.Range → ⊥ }
 {}

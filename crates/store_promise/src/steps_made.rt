@@ -1,6 +1,6 @@
 //! Laws on the steps that events make, which the promise of a run pins.
 ghost use Rattle.std.specs.Prelude.{◌≡◌, ◌≢◌, ◌⊎◌, ◌+◌, ◌<◌, ◌≤◌, ◌∷◌, ℕ, Bool, List, Option};
-ghost use Rattle.std.specs.Prelude.{slice_get, Contains, Some, None, length};
+ghost use Rattle.std.specs.Prelude.{slice_get, Contains, Some, None, alloc_error, length};
 ghost use Rattle.std.specs.Prelude.{true};
 ghost use Rattle.std.specs.Prelude.{false};
 ghost use Rattle.base.specs.declared.TheConstants.{CHANGED_BLOCKS, LOG_SLOTS, START_BLOCK};
@@ -166,7 +166,7 @@ pub fn no_two_take_one_byte()
         (answer : LockAnswer)
         → slice_get events index ≡ Some (event.Work worker) → worker < workers → other ≢ worker
         → slice_get t.steps index ≡ Some (Some (step.Wanted addr mode answer))
-        → (answer ≡ lock_answer.Held) ⊎ (answer ≡ lock_answer.Fetch) ⊎ (answer ≡ lock_answer.NoMemory)
+        → (answer ≡ lock_answer.Held) ⊎ (answer ≡ lock_answer.Fetch) ⊎ (answer ≡ lock_answer.NoMemory alloc_error)
         → progress_before events t.steps worker index ≡ At job (Planning begun)
         → has_taken (range_request_at addr mode) (progress_before events t.steps other index) ≡ true
         → PreservesPromise before later tree first workers events t → ⊥ }
@@ -175,7 +175,7 @@ pub fn no_two_take_one_byte()
         (answer : LockAnswer)
         → slice_get events index ≡ Some (event.Work worker) → worker < workers → other ≢ worker
         → slice_get t.steps index ≡ Some (Some (step.Wanted addr mode answer))
-        → (answer ≡ lock_answer.Held) ⊎ (answer ≡ lock_answer.Fetch) ⊎ (answer ≡ lock_answer.NoMemory)
+        → (answer ≡ lock_answer.Held) ⊎ (answer ≡ lock_answer.Fetch) ⊎ (answer ≡ lock_answer.NoMemory alloc_error)
         → progress_before events t.steps worker index ≡ At job (Planning begun)
         → is_fetching addr.block (progress_before events t.steps other index) ≡ true
         → PreservesPromise before later tree first workers events t → ⊥ }

@@ -25,7 +25,7 @@ by_answer worker (commit.Committed receipt) reply job job_is held =
     placed worker job reply receipt.place (is_answered_stable job.call) held
 by_answer worker (commit.Full back same) reply job job_is held = search rules
 by_answer worker (commit.Foreign back same) reply job job_is held = search rules
-by_answer worker (commit.NoMemory back same) reply job job_is held = search rules
+by_answer worker (commit.NoMemory back same error) reply job job_is held = search rules
 by_answer worker (commit.Broken back same) reply job job_is held = search rules
 by_answer worker (commit.Spent back same) reply job job_is held = search rules
 

@@ -10,9 +10,10 @@ use Rattle.store_workers.specs.WorkerSteps.{EndsBy, WorkerAndCore, none_begun, p
 use Rattle.store_workers.specs.declared.workers.parts.Job.{Job}
 use Rattle.store_workers.specs.declared.workers.parts.State.{State}
 use Rattle.txn.specs.Commit.{IsReadBy}
-use Rattle.txn.specs.Core.{CoreState}
+use Rattle.txn.specs.Core.{CoreState, with_refused}
 use Rattle.txn.specs.CoreWindow.{PreservesReads}
 use Rattle.txn.specs.Outcomes.{IsCommit}
+use Rattle.txn_law.proofs.HeldReads.{reads_refused}
 use Rattle.txn.specs.declared.outcomes.Commit.{Commit}
 use Rattle.txn.specs.declared.outcomes.Commit.TheVariants as commit
 use Rattle.circ.specs.declared.log.outcomes.Seq.{Seq}
@@ -33,6 +34,11 @@ module _ (old new : WorkerAndCore) (tx : ℕ) (done : Outcome)
   unchanged : new.core ≡ old.core → PreservesReads old.core new.core other
   unchanged same object is = subst (λ (c : CoreState). IsReadBy c other object) (sym same) is
 
+  -- nor has anything but how often memory was refused
+  refused : new.core ≡ with_refused old.core → PreservesReads old.core new.core other
+  refused one object is = subst (λ (c : CoreState). IsReadBy c other object) (sym one)
+      (reads_refused old.core other object is)
+
   -- a commit was answered so
   by_answer : (job : Job) (answer : Commit Outcome)
       → IsCommit old.core tx (planned_of done) done answer new.core
@@ -44,7 +50,7 @@ module _ (old new : WorkerAndCore) (tx : ℕ) (done : Outcome)
       (record (with_snap new.worker old.worker) { begun = none_begun })))
   by_answer job (commit.Full back same) core worker = unchanged core.0.core
   by_answer job (commit.Foreign back same) core worker = unchanged core.0.core
-  by_answer job (commit.NoMemory back same) core worker = unchanged core.0.core
+  by_answer job (commit.NoMemory back same error) core worker = refused core.0.core
   by_answer job (commit.Broken back same) core worker = unchanged core.0.core
   by_answer job (commit.Spent back same) core worker = unchanged core.0.core
 

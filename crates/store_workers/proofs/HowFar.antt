@@ -1,5 +1,5 @@
 -- How far a worker is after its steps is what these tell.
-use Rattle.std.proofs.Common.{◌≡◌, ◌∙◌, refl, sym, ap, subst, ℕ, ◌⊎◌, inl, inr, Bool, true, false}
+use Rattle.std.proofs.Common.{◌≡◌, ◌∙◌, refl, sym, ap, subst, ℕ, ◌⊎◌, inl, inr, Bool, true, false, alloc_error}
 use Rattle.std.proofs.Common.{Option, Some, None, Ok, Err, List, [], ◌∷◌, if◌then◌else◌}
 use Rattle.std.specs.Prelude.{IsSomeAnd, map}
 use Rattle.disk.specs.declared.block.BlockNo.{BlockNo}
@@ -155,8 +155,8 @@ module _ (broken : Bool) (job : Job) (tx : ℕ) (seen : Seen) (asked : Asking) (
         ∙ off (lock_request.Object addr mode)
     wanted_progresses old new addr mode (want.Outside back) are is =
         back_is back is.0 (Refused cause.Io) (Some seen) asked knows
-    wanted_progresses old new addr mode (want.NoMemory back) are is =
-        back_is back is.0 (Refused cause.NoMemory) (Some seen) asked knows
+    wanted_progresses old new addr mode (want.NoMemory back error) are is =
+        back_is back is.0 (Refused (cause.NoMemory alloc_error)) (Some seen) asked knows
 
     pub claimed_progresses : (old new : CoreState) (block : BlockNo) (addr : Addr) (answer : Claim)
         → IsClaimed old tx addr answer new
@@ -176,8 +176,8 @@ module _ (broken : Bool) (job : Job) (tx : ℕ) (seen : Seen) (asked : Asking) (
         ∙ off (lock_request.Claim block)
     claimed_progresses old new block addr (claim.Outside back) is =
         back_is back is.0 (Refused cause.Io) (Some seen) asked knows
-    claimed_progresses old new block addr (claim.NoMemory back) is =
-        back_is back is.0 (Refused cause.NoMemory) (Some seen) asked knows
+    claimed_progresses old new block addr (claim.NoMemory back error) is =
+        back_is back is.0 (Refused (cause.NoMemory alloc_error)) (Some seen) asked knows
 
     with_it : (base : State) (phase : Phase) (back : ℕ) (then' : Knowing) → base.work.job ≡ Some job
         → seen_in base.work.planner ≡ Some seen → base.asked ≡ asked → back ≡ tx
@@ -208,9 +208,9 @@ module _ (broken : Bool) (job : Job) (tx : ℕ) (seen : Seen) (asked : Asking) (
     commit_progresses old new done added planned (commit.Foreign back same) base job_is seen_is asked_is known_is is =
         with_it base Again back (without_off base.known) job_is seen_is asked_is is.0.transaction
         ∙ ap (λ k. progress_as Again (Some job) (Some tx) (Some seen) asked (without_off k)) known_is
-    commit_progresses old new done added planned (commit.NoMemory back same) base job_is seen_is asked_is known_is is =
-        with_it base (Refused cause.NoMemory) back base.known job_is seen_is asked_is is.0.transaction
-        ∙ ap (λ k. progress_as (Refused cause.NoMemory) (Some job) (Some tx) (Some seen) asked k) known_is
+    commit_progresses old new done added planned (commit.NoMemory back same error) base job_is seen_is asked_is known_is is =
+        with_it base (Refused (cause.NoMemory alloc_error)) back base.known job_is seen_is asked_is is.0.transaction
+        ∙ ap (λ k. progress_as (Refused (cause.NoMemory alloc_error)) (Some job) (Some tx) (Some seen) asked k) known_is
     commit_progresses old new done added planned (commit.Broken back same) base job_is seen_is asked_is known_is is =
         with_it base (Refused cause.Io) back base.known job_is seen_is asked_is is.0.transaction
         ∙ ap (λ k. progress_as (Refused cause.Io) (Some job) (Some tx) (Some seen) asked k) known_is
@@ -352,10 +352,10 @@ module _ (boot : ℕ) (entries : List Entry) (old new : WorkerAndCore) where
       job tx _ job_is tx_is next.snap_is)
 
   lacks : (tx : ℕ) (made : Step) → HasLacked tx old made new
-      → HasProgressed Planning (Some (step.Ended ending.NoMemory))
+      → HasProgressed Planning (Some (step.Ended (ending.NoMemory alloc_error)))
   lacks tx made has phase_is stands =
       let (job, job_is, rest) = some_of old.worker.work.job stands in
-      answers Planning job (step.Ended ending.NoMemory) job_is (ap progress_of has.worker) refl
+      answers Planning job (step.Ended (ending.NoMemory alloc_error)) job_is (ap progress_of has.worker) refl
 
   gives : (ok : Bool) (io : Fetch) (made : Step) → HasGivenBack ok io old made new
       → HasProgressed (Read ok) (Some (given_step ok io))

@@ -61,7 +61,7 @@ module _ (old new : WorkerAndCore) where
   wants addr mode (want.Busy back) has_space left is_preserved = absurd (true≢false is_preserved)
   wants addr mode (want.Loading back) has_space left is_preserved = absurd (true≢false is_preserved)
   wants addr mode (want.Outside back) has_space left is_preserved = tt
-  wants addr mode (want.NoMemory back) has_space left is_preserved = tt
+  wants addr mode (want.NoMemory back error) has_space left is_preserved = tt
 
   claims : (block : BlockNo) (answer : Claim) (has_space : Bool) → knowing.left ≡ []
       → is_deferred (Some (step.Claimed block (claim_answer answer))) ≡ false
@@ -71,7 +71,7 @@ module _ (old new : WorkerAndCore) where
   claims block (claim.Busy back) has_space left is_preserved = absurd (true≢false is_preserved)
   claims block (claim.Loading back) has_space left is_preserved = absurd (true≢false is_preserved)
   claims block (claim.Outside back) has_space left is_preserved = tt
-  claims block (claim.NoMemory back) has_space left is_preserved = tt
+  claims block (claim.NoMemory back error) has_space left is_preserved = tt
 
   commits : (job : Job) (reply : Reply) (added : List BlockNo) (answer : Commit Outcome) (base : State)
       → base.known.left ≡ []
@@ -85,7 +85,7 @@ module _ (old new : WorkerAndCore) where
       by false = tt
   commits job reply added (commit.Full back same) base left is_preserved = left
   commits job reply added (commit.Foreign back same) base left is_preserved = absurd (true≢false is_preserved)
-  commits job reply added (commit.NoMemory back same) base left is_preserved = tt
+  commits job reply added (commit.NoMemory back same error) base left is_preserved = tt
   commits job reply added (commit.Broken back same) base left is_preserved = tt
   commits job reply added (commit.Spent back same) base left is_preserved = tt
 

@@ -12,10 +12,10 @@ use Rattle.nfs_spec.specs.Model.Calls.{is_answered_stable}
 use Rattle.nfs_types.specs.declared.reply.Reply.{Reply}
 use Rattle.circ.specs.declared.log.outcomes.Seq.{Seq}
 use Rattle.procs.specs.Outcome.{Outcome}
-use Rattle.txn.specs.Core.{CoreState, IsOut, with_begun, without}
+use Rattle.txn.specs.Core.{CoreState, IsOut, with_begun, with_refused, without}
 use Rattle.txn.specs.CoreWindow.{PreservesReads}
 use Rattle.txn.specs.Fetch.{Fetch}
-use Rattle.txn.specs.Leaves.{Leaves, is_fetching, taken_by, without_fetch}
+use Rattle.txn.specs.Leaves.{Leaves, but_by, in_memory, is_fetching, taken_by, without_fetch}
 use Rattle.txn.specs.Outcomes.{IsClaimed, IsCommit, IsWanted}
 use Rattle.txn.specs.declared.outcomes.Claim.{Claim}
 use Rattle.txn.specs.declared.outcomes.Claim.TheVariants as claim
@@ -24,7 +24,8 @@ use Rattle.txn.specs.declared.outcomes.Commit.TheVariants as commit
 use Rattle.txn.specs.declared.outcomes.Want.{Want}
 use Rattle.txn.specs.declared.outcomes.Want.TheVariants as want
 use Rattle.txn.proofs.OtherSteps.{by_begin, by_claimed, by_commit, by_end, by_failed, by_fetched, by_want}
-use Rattle.txn.proofs.OtherSteps.{preserves_same}
+use Rattle.txn.proofs.OtherSteps.{preserves_refused, preserves_same}
+use Rattle.txn.proofs.Answered.{unbegun_by}
 use Rattle.objects.proofs.Residents.{same_block}
 use Rattle.txn_law.specs.Others.{PreservesTaken}
 use Rattle.store_promise.specs.declared.answers.Verdict.TheVariants as verdict
@@ -273,6 +274,13 @@ module _ (old new : WorkerAndCore) (preserves : PreservesReadsOf old new)
       (stays_out tx (ap (λ (c : CoreState). c.out) core) (ap (λ (c : CoreState). c.begun) core))
       (preserves_io io (λ block. ap (λ (c : CoreState). is_fetching c block) core))
 
+  -- nor has anything but how often memory was refused
+  refused_core : new.core ≡ with_refused old.core → new.worker.begun.tx ≡ old.worker.begun.tx
+      → new.worker.begun.io ≡ old.worker.begun.io → LeavesOthers old new
+  refused_core core tx io = by_parts (λ t differs. preserves_refused old.core new.core t core)
+      (stays_out tx (ap (λ (c : CoreState). c.out) core) (ap (λ (c : CoreState). c.begun) core))
+      (preserves_io io (λ block. ap (λ (c : CoreState). is_fetching c block) core))
+
   begins : (job : Job) (number : ℕ) → HasBegun job old number new → old.worker.begun.tx ≡ None
       → old.worker.begun.io ≡ None → LeavesOthers old new
   begins job number has no_tx no_io =
@@ -304,7 +312,7 @@ module _ (old new : WorkerAndCore) (preserves : PreservesReadsOf old new)
           (ap (λ (c : CoreState). c.out) is.2) (ap (λ (c : CoreState). c.begun) is.2)
       txs (want.Outside back) is got = stays_out (still back is.0 (ap (λ (b : Begun). b.tx) got))
           (ap (λ (c : CoreState). c.out) is.2) (ap (λ (c : CoreState). c.begun) is.2)
-      txs (want.NoMemory back) is got = stays_out (still back is.0 (ap (λ (b : Begun). b.tx) got))
+      txs (want.NoMemory back error) is got = stays_out (still back is.0 (ap (λ (b : Begun). b.tx) got))
           (ap (λ (c : CoreState). c.out) is.2) (ap (λ (c : CoreState). c.begun) is.2)
 
       ios : (answer : Want) → IsWanted old.core tx addr mode answer new.core
@@ -321,7 +329,7 @@ module _ (old new : WorkerAndCore) (preserves : PreservesReadsOf old new)
           (λ block. ap (λ (c : CoreState). is_fetching c block) is.2)
       ios (want.Outside back) is got = preserves_io (ap (λ (b : Begun). b.io) got ∙ sym no_io)
           (λ block. ap (λ (c : CoreState). is_fetching c block) is.2)
-      ios (want.NoMemory back) is got = preserves_io (ap (λ (b : Begun). b.io) got ∙ sym no_io)
+      ios (want.NoMemory back error) is got = preserves_io (ap (λ (b : Begun). b.io) got ∙ sym no_io)
           (λ block. ap (λ (c : CoreState). is_fetching c block) is.2)
 
   takes : (tx : ℕ) (addr : Addr) (answer : Claim) → old.worker.begun.tx ≡ Some tx → old.worker.begun.io ≡ None
@@ -345,7 +353,7 @@ module _ (old new : WorkerAndCore) (preserves : PreservesReadsOf old new)
           (ap (λ (c : CoreState). c.out) is.2) (ap (λ (c : CoreState). c.begun) is.2)
       txs (claim.Outside back) is got = stays_out (still back is.0 (ap (λ (b : Begun). b.tx) got))
           (ap (λ (c : CoreState). c.out) is.2) (ap (λ (c : CoreState). c.begun) is.2)
-      txs (claim.NoMemory back) is got = stays_out (still back is.0 (ap (λ (b : Begun). b.tx) got))
+      txs (claim.NoMemory back error) is got = stays_out (still back is.0 (ap (λ (b : Begun). b.tx) got))
           (ap (λ (c : CoreState). c.out) is.2) (ap (λ (c : CoreState). c.begun) is.2)
 
       ios : (answer : Claim) → IsClaimed old.core tx addr answer new.core
@@ -358,18 +366,18 @@ module _ (old new : WorkerAndCore) (preserves : PreservesReadsOf old new)
           (λ block. ap (λ (c : CoreState). is_fetching c block) is.2)
       ios (claim.Outside back) is got = preserves_io (ap (λ (b : Begun). b.io) got ∙ sym no_io)
           (λ block. ap (λ (c : CoreState). is_fetching c block) is.2)
-      ios (claim.NoMemory back) is got = preserves_io (ap (λ (b : Begun). b.io) got ∙ sym no_io)
+      ios (claim.NoMemory back error) is got = preserves_io (ap (λ (b : Begun). b.io) got ∙ sym no_io)
           (λ block. ap (λ (c : CoreState). is_fetching c block) is.2)
 
   -- a transaction that was ended without a change
   aborts : (tx : ℕ) → old.worker.begun.tx ≡ Some tx → old.worker.begun.io ≡ None
-      → new.worker.begun.tx ≡ None → new.worker.begun.io ≡ None → HasAborted tx old.core new.core
+      → new.worker.begun.tx ≡ None → new.worker.begun.io ≡ None → new.core.out ≡ without tx old.core.out
+      → new.core.begun ≡ old.core.begun
+      → Leaves new.core (but_by tx (taken_by old.core)) (is_fetching old.core) (in_memory old.core)
       → LeavesOthers old new
-  aborts tx tx_is no_io no_tx none has =
+  aborts tx tx_is no_io no_tx none out begun leaves =
       by_parts (λ t differs. by_end old.core new.core tx t (apart tx t tx_is differs) (reads tx t tx_is differs)
-      (ap (λ (c : CoreState). c.out) has.only) has.leaves)
-      (ends tx tx_is no_tx (ap (λ (c : CoreState). c.out) has.only) (ap (λ (c : CoreState). c.begun) has.only))
-      (preserves_io (none ∙ sym no_io) has.leaves.fetches)
+      out leaves) (ends tx tx_is no_tx out begun) (preserves_io (none ∙ sym no_io) leaves.fetches)
 
   commits : (job : Job) (tx : ℕ) (done : Outcome) (base : State) (answer : Commit Outcome)
       → old.worker.begun.tx ≡ Some tx → old.worker.begun.io ≡ None → base.begun ≡ none_begun
@@ -404,7 +412,7 @@ module _ (old new : WorkerAndCore) (preserves : PreservesReadsOf old new)
       txs (commit.Foreign back change) core is =
           stays_out (still back core.0.transaction (ap (λ (s : State). s.begun.tx) is))
           (ap (λ (c : CoreState). c.out) core.0.core) (ap (λ (c : CoreState). c.begun) core.0.core)
-      txs (commit.NoMemory back change) core is =
+      txs (commit.NoMemory back change error) core is =
           stays_out (still back core.0.transaction (ap (λ (s : State). s.begun.tx) is))
           (ap (λ (c : CoreState). c.out) core.0.core) (ap (λ (c : CoreState). c.begun) core.0.core)
       txs (commit.Broken back change) core is =
@@ -422,7 +430,7 @@ module _ (old new : WorkerAndCore) (preserves : PreservesReadsOf old new)
           (λ block. ap (λ (c : CoreState). is_fetching c block) core.0.core)
       ios (commit.Foreign back change) core is = preserves_io (ap (λ (s : State). s.begun.io) is ∙ sym no_io)
           (λ block. ap (λ (c : CoreState). is_fetching c block) core.0.core)
-      ios (commit.NoMemory back change) core is = preserves_io (ap (λ (s : State). s.begun.io) is ∙ sym no_io)
+      ios (commit.NoMemory back change error) core is = preserves_io (ap (λ (s : State). s.begun.io) is ∙ sym no_io)
           (λ block. ap (λ (c : CoreState). is_fetching c block) core.0.core)
       ios (commit.Broken back change) core is = preserves_io (ap (λ (s : State). s.begun.io) is ∙ sym no_io)
           (λ block. ap (λ (c : CoreState). is_fetching c block) core.0.core)
@@ -470,8 +478,10 @@ module _ (old new : WorkerAndCore) (preserves : PreservesReadsOf old new)
     reading = λ is no_tx no_io. same_core (ap (λ (s : WorkerAndCore). s.core) is) (ap (λ (s : WorkerAndCore). s.worker.begun.tx) is)
         (ap (λ (s : WorkerAndCore). s.worker.begun.io) is);
     begun = λ job number job_is rules has no_tx no_io. begins job number has (no_tx refl) (no_io refl);
-    not_begun = λ job why job_is rules none core worker no_tx no_io. same_core core
-        (ap (λ (s : State). s.begun.tx) worker) (ap (λ (s : State). s.begun.io) worker);
+    not_begun = λ job why job_is rules none core worker no_tx no_io.
+        unbegun_by (λ (c : CoreState). new.core ≡ c → LeavesOthers old new) why old.core
+        (λ same. same_core same (ap (λ (s : State). s.begun.tx) worker) (ap (λ (s : State). s.begun.io) worker))
+        (λ one. refused_core one (ap (λ (s : State). s.begun.tx) worker) (ap (λ (s : State). s.begun.io) worker)) core;
     replied = λ job job_is rules core worker no_tx no_io. same_core core
         (ap (λ (s : State). s.begun.tx) worker) (ap (λ (s : State). s.begun.io) worker);
     wanted = λ tx addr mode made tx_is next has no_tx no_io. wants tx addr mode has.answer tx_is (no_io refl) has.core
@@ -482,12 +492,15 @@ module _ (old new : WorkerAndCore) (preserves : PreservesReadsOf old new)
         (record (with_snap new.worker old.worker) { begun = none_begun }) has.answer tx_is (no_io refl) refl has.core
         has.worker;
     lacked = λ tx made tx_is none has no_tx no_io. aborts tx tx_is (no_io refl)
-        (ap (λ (s : State). s.begun.tx) has.worker) (ap (λ (s : State). s.begun.io) has.worker) has.core;
+        (ap (λ (s : State). s.begun.tx) has.worker) (ap (λ (s : State). s.begun.io) has.worker)
+        (ap (λ (c : CoreState). c.out) has.core.only) (ap (λ (c : CoreState). c.begun) has.core.only) has.core.leaves;
     given = λ ok io made io_is has no_tx no_io. gives ok io made io_is has;
     refused = λ why job tx made job_is tx_is has no_tx no_io. aborts tx tx_is (no_io refl)
-        (ap (λ (s : State). s.begun.tx) has.worker) (ap (λ (s : State). s.begun.io) has.worker) has.core;
+        (ap (λ (s : State). s.begun.tx) has.worker) (ap (λ (s : State). s.begun.io) has.worker)
+        (ap (λ (c : CoreState). c.out) has.core.only) (ap (λ (c : CoreState). c.begun) has.core.only) has.core.leaves;
     left = λ tx made tx_is has no_tx no_io. aborts tx tx_is (no_io refl)
-        (ap (λ (s : State). s.begun.tx) has.worker) (ap (λ (s : State). s.begun.io) has.worker) has.core;
+        (ap (λ (s : State). s.begun.tx) has.worker) (ap (λ (s : State). s.begun.io) has.worker)
+        (ap (λ (c : CoreState). c.out) has.core.only) (ap (λ (c : CoreState). c.begun) has.core.only) has.core.leaves;
     waited = λ place made has no_tx no_io. waits place made has;
   }
 

@@ -8,6 +8,7 @@ pub mod Traced
 pub mod PlansEnd
 pub mod StaysSingle
 pub mod StepKinds
+pub mod CountsRefused
 pub mod StepTells
 pub mod WorkCases
 pub mod Placing

@@ -184,7 +184,7 @@ module _ (core : CoreState) (tx : ℕ) (snap : Snap) (well_formed : IsWellFormed
   wanted_well new addr mode asks (want.Held back bytes) is = refl
   wanted_well new addr mode asks (want.Fetch back io) is = refl
   wanted_well new addr mode asks (want.Outside back) is = refl
-  wanted_well new addr mode asks (want.NoMemory back) is = refl
+  wanted_well new addr mode asks (want.NoMemory back error) is = refl
   wanted_well new addr mode asks (want.Busy back) is =
       absurd (never_busy core tx well_formed out addr mode (λ other hold taken over.
       one_or_apart snap.geometry other addr (has.asked other hold taken) asks over) is.1)
@@ -196,7 +196,7 @@ module _ (core : CoreState) (tx : ℕ) (snap : Snap) (well_formed : IsWellFormed
       → is_deferred (Some (step.Claimed block (claim_answer answer))) ≡ false
   claimed_well new block addr claims whole (claim.Held back) is = refl
   claimed_well new block addr claims whole (claim.Outside back) is = refl
-  claimed_well new block addr claims whole (claim.NoMemory back) is = refl
+  claimed_well new block addr claims whole (claim.NoMemory back error) is = refl
   claimed_well new block addr claims whole (claim.Busy back) is =
       absurd (never_busy core tx well_formed out addr modes.Exclusive (λ other hold taken over.
       one_or_apart snap.geometry other addr (has.asked other hold taken)
@@ -214,7 +214,7 @@ module _ (core : CoreState) (tx : ℕ) (snap : Snap) (well_formed : IsWellFormed
         → is_deferred (Some (step.Commit added (committing_of answer))) ≡ false
     committed_well new added (commit.Committed receipt) is = refl
     committed_well new added (commit.Full back same) is = refl
-    committed_well new added (commit.NoMemory back same) is = refl
+    committed_well new added (commit.NoMemory back same error) is = refl
     committed_well new added (commit.Broken back same) is = refl
     committed_well new added (commit.Spent back same) is = refl
     committed_well new added (commit.Foreign back same) is = absurd (is.2 own)
@@ -253,7 +253,7 @@ module _ (old new : WorkerAndCore) (well_formed : IsWellFormed old.core) (single
             ∙ committed_well old.core tx is.snap well_formed out has none done planned.0 new.core
             (blocks_of done.written) has_committed.answer has_committed.core
       ]
-      of_next plan.NoMemory planned goes = ap (λ m. is_deferred (Some m)) goes.made_is
+      of_next (plan.NoMemory error) planned goes = ap (λ m. is_deferred (Some m)) goes.made_is
 
   called_well : (made : Step) → Beginning old made new → is_deferred (Some made) ≡ false
   called_well made (begun job number is made_is has) = ap (λ m. is_deferred (Some m)) made_is

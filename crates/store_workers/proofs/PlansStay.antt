@@ -320,7 +320,7 @@ module _ (old new : WorkerAndCore) (preserves : PreservesReadsOf old new) (beyon
     wants addr mode (want.Loading back) asks is got then_seen =
         off back is.0 (ap (λ (b : Begun). b.tx) got) (lock_request.Object addr mode) is.2 then_seen
     wants addr mode (want.Outside back) asks is got then_seen = tt
-    wants addr mode (want.NoMemory back) asks is got then_seen = tt
+    wants addr mode (want.NoMemory back error) asks is got then_seen = tt
 
     takes : (block : BlockNo) (addr : Addr) (answer : Claim) → Claims seen.geometry block
         → (old.worker.known.left ≡ [] → is_claimed block seen.claims ≡ false) → IsWhole block addr
@@ -336,7 +336,7 @@ module _ (old new : WorkerAndCore) (preserves : PreservesReadsOf old new) (beyon
     takes block addr (claim.Loading back) may new_to_it whole is got then_seen =
         off back is.0 (ap (λ (b : Begun). b.tx) got) (lock_request.Claim block) is.2 then_seen
     takes block addr (claim.Outside back) may new_to_it whole is got then_seen = tt
-    takes block addr (claim.NoMemory back) may new_to_it whole is got then_seen = tt
+    takes block addr (claim.NoMemory back error) may new_to_it whole is got then_seen = tt
 
   wanted_so : (tx : ℕ) (addr : Addr) (mode : Mode) (made : Step) → old.worker.begun.tx ≡ Some tx
       → IsRequested old.worker (lock_request.Object addr mode) (plan.Need addr mode) → HasWanted tx addr mode old made new
@@ -392,7 +392,7 @@ module _ (old new : WorkerAndCore) (preserves : PreservesReadsOf old new) (beyon
           has.seen (λ j t seen t_is of_call. subst (λ (c : CoreState). HasOfCall t c seen) (sym core.0.core) of_call)
           plans)
       by (commit.Foreign back change) core is = by_state _ is tt
-      by (commit.NoMemory back change) core is = by_state _ is tt
+      by (commit.NoMemory back change error) core is = by_state _ is tt
       by (commit.Broken back change) core is = by_state _ is tt
       by (commit.Spent back change) core is = by_state _ is tt
 

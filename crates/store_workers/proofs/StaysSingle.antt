@@ -1,5 +1,5 @@
 -- A worker that is alone in its store stays alone by each of its steps.
-use Rattle.std.proofs.Common.{◌≡◌, ◌∙◌, refl, sym, ap, subst, true≢false, ℕ, Bool, true, false, not, ◌&&◌, ◌||◌}
+use Rattle.std.proofs.Common.{◌≡◌, ◌∙◌, refl, sym, ap, subst, true≢false, ℕ, Bool, true, false, not, ◌&&◌, ◌||◌, alloc_error}
 use Rattle.std.proofs.Common.{inl, inr, if◌then◌else◌, cond, nat_eq, Option, Some, None, is_some, List, [], ◌∷◌, ◌++◌, All}
 use Rattle.std.specs.Prelude.{IsSomeAnd, option_to_list}
 use Rattle.std.specs.List.{list_any}
@@ -24,12 +24,13 @@ use Rattle.inode.specs.Snap.{is_seen, with_mode, with_read}
 use Rattle.inode.specs.declared.snap.Snap.{Snap}
 use Rattle.txn.specs.Claimed.{IsClaimedBy}
 use Rattle.txn.specs.Commit.{IsReadBy}
-use Rattle.txn.specs.Core.{CoreState}
+use Rattle.txn.specs.Core.{CoreState, with_refused}
 use Rattle.txn.specs.CoreWindow.{PreservesReads}
 use Rattle.txn.specs.Fetch.{Fetch}
-use Rattle.txn.specs.Leaves.{taken_by, with_taken}
+use Rattle.txn.specs.Leaves.{Leaves, but_by, in_memory, is_fetching, taken_by, with_taken}
 use Rattle.txn.specs.Object.{ObjectBytes}
-use Rattle.txn.specs.Outcomes.{IsClaimed, IsCommit, IsWanted}
+use Rattle.txn.specs.Outcomes.{IsClaimed, IsCommit, IsWanted, unbegun}
+use Rattle.txn.proofs.Answered.{unbegun_by}
 use Rattle.txn.specs.WellFormed.{IsWellFormed}
 use Rattle.txn.specs.declared.outcomes.Claim.{Claim}
 use Rattle.txn.specs.declared.outcomes.Claim.TheVariants as claim
@@ -331,10 +332,11 @@ none_taken core tx addr hold well_formed out taken =
 module _ (old new : WorkerAndCore) (well_formed : IsWellFormed old.core) (single_out : IsSingleOut old.worker old.core)
     (fetches : FetchesOnly old.worker.begun.io old.core) (preserves : PreservesReadsOf old new) where
   -- the worker is answered, and has its fetch as before
-  at_once_stays_left : (made : Option Step) → IsAnsweredAtOnce old new → StaysLeft made new.worker new.core
-  at_once_stays_left made proven = single_by made new.worker new.core Idle old.worker.begun.io
+  at_once_stays_left : (made : Option Step) (left : CoreState) → FetchesOnly old.worker.begun.io left
+      → IsAnsweredAtOnce left old new → StaysLeft made new.worker new.core
+  at_once_stays_left made left fetching proven = single_by made new.worker new.core Idle old.worker.begun.io
       (ap (λ (s : State). s.phase) proven.worker) (ap (λ (s : State). s.begun.io) proven.worker)
-      (subst (λ (c : CoreState). FetchesOnly old.worker.begun.io c) (sym proven.core) fetches) (λ has_space. tt)
+      (subst (λ (c : CoreState). FetchesOnly old.worker.begun.io c) (sym proven.core) fetching) (λ has_space. tt)
 
   begun_so : (made : Option Step) (job : Job) (number : ℕ) → old.worker.begun.tx ≡ None
       → FetchesOnly None old.core
@@ -377,11 +379,12 @@ module _ (old new : WorkerAndCore) (well_formed : IsWellFormed old.core) (single
     -- what was aborted has no fetch, and nothing is planned
     aborted_so : (made : Option Step) (phase : Phase)
         → ((worker : State) (core : CoreState) → HasTakenInPlan phase worker core)
-        → new.worker.phase ≡ phase → new.worker.begun.io ≡ None → HasAborted tx old.core new.core
+        → new.worker.phase ≡ phase → new.worker.begun.io ≡ None
+        → Leaves new.core (but_by tx (taken_by old.core)) (is_fetching old.core) (in_memory old.core)
         → StaysLeft made new.worker new.core
-    aborted_so made phase plans phase_is io_is has =
+    aborted_so made phase plans phase_is io_is leaves =
         single_by made new.worker new.core phase None phase_is io_is
-        (λ block. has.leaves.fetches block ∙ none block) (λ has_space. plans new.worker new.core)
+        (λ block. leaves.fetches block ∙ none block) (λ has_space. plans new.worker new.core)
 
     module _ (job : Job) (snap : Snap) (job_is : old.worker.work.job ≡ Some job)
         (snap_is : seen_in old.worker.work.planner ≡ Some (seen_of snap))
@@ -422,6 +425,9 @@ module _ (old new : WorkerAndCore) (well_formed : IsWellFormed old.core) (single
             still : new.core ≡ old.core → FetchesOnly None new.core
             still core = subst (λ (c : CoreState). FetchesOnly None c) (sym core) none
 
+            still_none : new.core ≡ with_refused old.core → FetchesOnly None new.core
+            still_none core = subst (λ (c : CoreState). FetchesOnly None c) (sym core) none
+
             by : (answer : Want) → IsWanted old.core tx addr mode answer new.core
                 → new.worker.phase ≡ phase_wanted addr mode answer old.worker.known
                 → new.worker.begun ≡ begun_wanted answer
@@ -457,9 +463,9 @@ module _ (old new : WorkerAndCore) (well_formed : IsWellFormed old.core) (single
             by (want.Outside back) is phase got seen =
                 single_by (Some made) new.worker new.core (phase_wanted addr mode (want.Outside back) old.worker.known) None phase
                 (ap (λ (b : Begun). b.io) got) (still is.2) (λ has_space. tt)
-            by (want.NoMemory back) is phase got seen =
-                single_by (Some made) new.worker new.core (phase_wanted addr mode (want.NoMemory back) old.worker.known) None phase
-                (ap (λ (b : Begun). b.io) got) (still is.2) (λ has_space. tt)
+            by (want.NoMemory back error) is phase got seen =
+                single_by (Some made) new.worker new.core (phase_wanted addr mode (want.NoMemory back error) old.worker.known) None phase
+                (ap (λ (b : Begun). b.io) got) (still_none is.2) (λ has_space. tt)
 
         claimed_so : (block : BlockNo) (made : Step) → IsPlanFor snap (plan.Claim block)
             → HasClaimed tx block old made new → StaysLeft (Some made) new.worker new.core
@@ -478,6 +484,9 @@ module _ (old new : WorkerAndCore) (well_formed : IsWellFormed old.core) (single
 
             still : new.core ≡ old.core → FetchesOnly None new.core
             still core = subst (λ (c : CoreState). FetchesOnly None c) (sym core) none
+
+            still_none : new.core ≡ with_refused old.core → FetchesOnly None new.core
+            still_none core = subst (λ (c : CoreState). FetchesOnly None c) (sym core) none
 
             by : (answer : Claim) → IsClaimed old.core tx claims.core.0 answer new.core
                 → new.worker.phase ≡ phase_claimed block answer old.worker.known
@@ -506,9 +515,9 @@ module _ (old new : WorkerAndCore) (well_formed : IsWellFormed old.core) (single
             by (claim.Outside back) is phase got seen =
                 single_by (Some made) new.worker new.core (phase_claimed block (claim.Outside back) old.worker.known) None phase
                 (ap (λ (b : Begun). b.io) got) (still is.2) (λ has_space. tt)
-            by (claim.NoMemory back) is phase got seen =
-                single_by (Some made) new.worker new.core (phase_claimed block (claim.NoMemory back) old.worker.known) None phase
-                (ap (λ (b : Begun). b.io) got) (still is.2) (λ has_space. tt)
+            by (claim.NoMemory back error) is phase got seen =
+                single_by (Some made) new.worker new.core (phase_claimed block (claim.NoMemory back error) old.worker.known) None phase
+                (ap (λ (b : Begun). b.io) got) (still_none is.2) (λ has_space. tt)
 
     -- what came of a commit
     module _ (job : Job) (done : Outcome) where
@@ -539,8 +548,8 @@ module _ (old new : WorkerAndCore) (well_formed : IsWellFormed old.core) (single
           single_by (Some made) new.worker new.core Again None (ap (λ (s : State). s.phase) is)
           (ap (λ (s : State). s.begun.io) is)
           (subst (λ (c : CoreState). FetchesOnly None c) (sym core.0.core) none) (λ has_space. tt)
-      committed_so made base added (commit.NoMemory back same) io made_is core is =
-          single_by (Some made) new.worker new.core (Refused cause.NoMemory) None
+      committed_so made base added (commit.NoMemory back same error) io made_is core is =
+          single_by (Some made) new.worker new.core (Refused (cause.NoMemory alloc_error)) None
           (ap (λ (s : State). s.phase) is)
           (ap (λ (s : State). s.begun.io) is)
           (subst (λ (c : CoreState). FetchesOnly None c) (sym core.0.core) none) (λ has_space. tt)
@@ -555,7 +564,7 @@ module _ (old new : WorkerAndCore) (well_formed : IsWellFormed old.core) (single
 
     lacked_so : (made : Step) → HasLacked tx old made new → StaysLeft (Some made) new.worker new.core
     lacked_so made has = aborted_so (Some made) Idle (λ worker core. tt)
-        (ap (λ (s : State). s.phase) has.worker) (ap (λ (s : State). s.begun.io) has.worker) has.core
+        (ap (λ (s : State). s.phase) has.worker) (ap (λ (s : State). s.begun.io) has.worker) has.core.leaves
 
     planned_so : (made : Step) (next : Plan) → old.worker.known.left ≡ [] → IsNext old.worker next
         → HasTaken old.worker old.core
@@ -578,7 +587,7 @@ module _ (old new : WorkerAndCore) (well_formed : IsWellFormed old.core) (single
               (blocks_of done.written) has.answer refl has.made_is
               has.core has.worker
         ]
-        of_next plan.NoMemory is_plan goes = lacked_so made goes
+        of_next (plan.NoMemory error) is_plan goes = lacked_so made goes
 
   -- a fetch is given back
   given_so : (ok : Bool) (made : Step) (io : Fetch) → old.worker.begun.io ≡ Some io
@@ -648,20 +657,21 @@ module _ (old new : WorkerAndCore) (well_formed : IsWellFormed old.core) (single
   refused_so why made none (Some job) None tx_is has = absurd has
   refused_so why made none (Some job) (Some tx) tx_is has =
       aborted_so tx tx_is none (Some made) Idle (λ worker core. tt) (ap (λ (s : State). s.phase) has.worker)
-      (ap (λ (s : State). s.begun.io) has.worker) has.core
+      (ap (λ (s : State). s.begun.io) has.worker) has.core.leaves
 
   left_so : (made : Step) → FetchesOnly None old.core → (tx : Option ℕ) → old.worker.begun.tx ≡ tx
       → IsSomeAnd tx (λ tx. HasLeft tx old made new) → StaysLeft (Some made) new.worker new.core
   left_so made none None tx_is has = absurd has
   left_so made none (Some tx) tx_is has =
       aborted_so tx tx_is none (Some made) Called (λ worker core. tt) (ap (λ (s : State). s.phase) has.worker)
-      (ap (λ (s : State). s.begun.io) has.worker) has.core
+      (ap (λ (s : State). s.begun.io) has.worker) has.core.leaves
 
   called_so : (made : Step) → old.worker.begun.tx ≡ None → FetchesOnly None old.core → Beginning old made new
       → StaysLeft (Some made) new.worker new.core
   called_so made idle none (begun job number job_is made_is has) = begun_so (Some made) job number idle none has
-  called_so made idle none (refused why made_is proven) = at_once_stays_left (Some made) proven
-  called_so made idle none (replied made_is proven) = at_once_stays_left (Some made) proven
+  called_so made idle none (refused why made_is proven) = at_once_stays_left (Some made) (unbegun why old.core)
+      (unbegun_by (λ (c : CoreState). FetchesOnly old.worker.begun.io c) why old.core fetches fetches) proven
+  called_so made idle none (replied made_is proven) = at_once_stays_left (Some made) old.core fetches proven
 
   read_so : (ok : Bool) (made : Step) (io : Option Fetch) → old.worker.begun.io ≡ io
       → HasTaken old.worker old.core

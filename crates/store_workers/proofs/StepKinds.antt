@@ -3,6 +3,8 @@ use Rattle.std.proofs.Common.{◌≡◌, ℕ, Bool, true, false, Option, Some, N
 use Rattle.std.specs.Prelude.{IsSomeAnd}
 use Rattle.nfs_spec.specs.Model.Calls.{begins_transaction}
 use Rattle.procs.specs.Outcome.{Outcome}
+use Rattle.txn.specs.Core.{CoreState}
+use Rattle.txn.specs.Outcomes.{unbegun}
 use Rattle.txn.specs.declared.outcomes.BeginFault.{BeginFault}
 use Rattle.store_promise.specs.declared.answers.Verdict.{Verdict}
 use Rattle.store_promise.specs.declared.events.Step.{Step}
@@ -11,18 +13,19 @@ use Rattle.store_workers.specs.WorkerAnswers.{with_answer}
 use Rattle.store_workers.specs.WorkerSteps.{Begins, BeginsBy, EndsBy, HasBegun, HasCommitted, HasLacked, WorkerAndCore}
 use Rattle.store_workers.specs.declared.workers.parts.Job.{Job}
 
--- a call is answered at once
-pub record IsAnsweredAtOnce (old new : WorkerAndCore) : Type 0 where
+-- a call is answered at once, which leaves this core
+pub record IsAnsweredAtOnce (left : CoreState) (old new : WorkerAndCore) : Type 0 where
   pub heard : Verdict
-  pub core : new.core ≡ old.core
+  pub core : new.core ≡ left
   pub worker : new.worker ≡ with_answer heard None old.worker
 
 -- a call begins a transaction, is told why none was begun, or needs none
 pub data Beginning (old : WorkerAndCore) (made : Step) (new : WorkerAndCore) : Type 0 where
   begun : (job : Job) (number : ℕ) → old.worker.work.job ≡ Some job → made ≡ step.Begun (Ok number)
       → HasBegun job old number new → Beginning old made new
-  refused : (why : BeginFault) → made ≡ step.Begun (Err why) → IsAnsweredAtOnce old new → Beginning old made new
-  replied : made ≡ step.Replied → IsAnsweredAtOnce old new → Beginning old made new
+  refused : (why : BeginFault) → made ≡ step.Begun (Err why) → IsAnsweredAtOnce (unbegun why old.core) old new
+      → Beginning old made new
+  replied : made ≡ step.Replied → IsAnsweredAtOnce old.core old new → Beginning old made new
 
 by_rules : (old new : WorkerAndCore) (made : Step) (job : Job) (served : Bool) → old.worker.work.job ≡ Some job
     → BeginsBy served job old made new → Beginning old made new

@@ -1,6 +1,6 @@
 -- What lies ready after a worker's step is what the promise wants, and once it is told the worker stands
 -- between the events again.
-use Rattle.std.proofs.Common.{arith, ◌≡◌, ◌∙◌, refl, sym, ap, ap₂, subst, true≢false, ℕ, ◌+◌, zero, suc, Bool}
+use Rattle.std.proofs.Common.{arith, ◌≡◌, ◌∙◌, refl, sym, ap, ap₂, subst, true≢false, ℕ, ◌+◌, zero, suc, Bool, alloc_error}
 use Rattle.std.proofs.Common.{true, false, not, if◌then◌else◌}
 use Rattle.std.proofs.Common.{◌&&◌, Option, Some, None, Ok, Err, IfSome, is_some, List, [], ◌∷◌, ◌++◌, length}
 use Rattle.std.proofs.Common.{slice_get}
@@ -306,7 +306,7 @@ module _ (boot number : ℕ) (entries : List Entry) (old new : WorkerAndCore) (a
       by (want.Loading back) is = left (want.Loading back) (off_job (lock_request.Object addr mode))
           (off_stands (lock_request.Object addr mode) (once_wanted addr mode (want.Loading back)) (runs tx back tx_is is.0 stands))
       by (want.Outside back) is = left (want.Outside back) refl (runs tx back tx_is is.0 stands)
-      by (want.NoMemory back) is = left (want.NoMemory back) refl (runs tx back tx_is is.0 stands)
+      by (want.NoMemory back error) is = left (want.NoMemory back error) refl (runs tx back tx_is is.0 stands)
 
   claims : (tx : ℕ) (block : BlockNo) (made : Step) → old.worker.begun.tx ≡ Some tx
       → IsRequested old.worker (lock_request.Claim block) (plan.Claim block) → (has : HasClaimed tx block old made new)
@@ -329,16 +329,16 @@ module _ (boot number : ℕ) (entries : List Entry) (old new : WorkerAndCore) (a
       by (claim.Loading back) is = left (claim.Loading back) (off_job (lock_request.Claim block))
           (off_stands (lock_request.Claim block) (once_claimed block (claim.Loading back)) (runs tx back tx_is is.0 stands))
       by (claim.Outside back) is = left (claim.Outside back) refl (runs tx back tx_is is.0 stands)
-      by (claim.NoMemory back) is = left (claim.NoMemory back) refl (runs tx back tx_is is.0 stands)
+      by (claim.NoMemory back error) is = left (claim.NoMemory back error) refl (runs tx back tx_is is.0 stands)
 
   lacks : (tx : ℕ) (made : Step) → HasLacked tx old made new
-      → LeavesIt Planning (Some (step.Ended ending.NoMemory))
+      → LeavesIt Planning (Some (step.Ended (ending.NoMemory alloc_error)))
   lacks tx made has phase_is stands =
       let (job, job_is, rest) = some_of old.worker.work.job stands in
       so Planning _ _ has.worker
-      (answers Planning (step.Ended ending.NoMemory)
+      (answers Planning (step.Ended (ending.NoMemory alloc_error))
       (record (with_snap new.worker old.worker) { begun = none_begun })
-      verdict.NoMemory None job (run_progress.Planning old_begun) (with_job Planning job job_is)
+      (verdict.NoMemory alloc_error) None job (run_progress.Planning old_begun) (with_job Planning job job_is)
       (λ t answer has v p. (p, v)) at.entry)
 
   module _ (job : Job) (tx : ℕ) (done : Outcome) (added : List BlockNo) (tx_is : old.worker.begun.tx ≡ Some tx)
@@ -437,8 +437,8 @@ module _ (boot number : ℕ) (entries : List Entry) (old new : WorkerAndCore) (a
         goes_on Planning (step.Commit added committing.Foreign)
         (record (with_tx back Again planned) { known = without_off planned.known }) job job_is refl
         at.answer at.entry (runs tx back tx_is is.0.transaction stands)
-    commits_by (commit.NoMemory back same) is =
-        back_in back (step.Commit added committing.NoMemory) (Refused cause.NoMemory)
+    commits_by (commit.NoMemory back same error) is =
+        back_in back (step.Commit added (committing.NoMemory alloc_error)) (Refused (cause.NoMemory alloc_error))
         is.0.transaction refl at.entry
         (λ r. r)
     commits_by (commit.Broken back same) is =

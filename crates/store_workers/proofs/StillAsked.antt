@@ -55,7 +55,7 @@ module _ (old new : WorkerAndCore) (asked : HasSoundJob old.worker) where
       has_job None (ap (λ (s : State). s.work.job) is) tt
   commits job reply base (commit.Full back change) base_is is = by_worker _ is base_is
   commits job reply base (commit.Foreign back change) base_is is = by_worker _ is base_is
-  commits job reply base (commit.NoMemory back change) base_is is = by_worker _ is base_is
+  commits job reply base (commit.NoMemory back change error) base_is is = by_worker _ is base_is
   commits job reply base (commit.Broken back change) base_is is = by_worker _ is base_is
   commits job reply base (commit.Spent back change) base_is is = by_worker _ is base_is
 

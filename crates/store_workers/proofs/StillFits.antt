@@ -11,7 +11,8 @@ use Rattle.layout.specs.Geometry.{IsLawful}
 use Rattle.nfs_spec.specs.Model.Calls.{is_answered_stable}
 use Rattle.nfs_types.specs.declared.reply.Reply.{Reply}
 use Rattle.procs.specs.Outcome.{Outcome}
-use Rattle.txn.specs.Core.{CoreState, IsOut, without}
+use Rattle.txn.specs.Core.{CoreState, IsOut, with_refused, without}
+use Rattle.txn.proofs.Answered.{unbegun_by}
 use Rattle.txn.specs.Fetch.{Fetch}
 use Rattle.txn.specs.Outcomes.{IsClaimed, IsCommit, IsWanted}
 use Rattle.txn.specs.declared.outcomes.Claim.{Claim}
@@ -101,7 +102,8 @@ module _ (old new : WorkerAndCore) (phase : Phase) where
       (subst (λ (b : BlockNo). b.0 < old.core.log.blocks) (sym is.2.block) is.1.inside.home.1)
   wants tx addr mode (want.Loading back) tx_is is begun = still tx back is.0 tx_is begun (out_of _ is.2)
   wants tx addr mode (want.Outside back) tx_is is begun = still tx back is.0 tx_is begun (out_of _ is.2)
-  wants tx addr mode (want.NoMemory back) tx_is is begun = still tx back is.0 tx_is begun (out_of _ is.2)
+  wants tx addr mode (want.NoMemory back error) tx_is is begun =
+      still tx back is.0 tx_is begun (out_of (with_refused old.core) is.2)
 
   claims : (tx : ℕ) (addr : Addr) (answer : Claim) → old.worker.begun.tx ≡ Some tx
       → IsClaimed old.core tx addr answer new.core → new.worker.begun ≡ begun_claimed answer → Turn old new phase
@@ -109,7 +111,8 @@ module _ (old new : WorkerAndCore) (phase : Phase) where
   claims tx addr (claim.Busy back) tx_is is begun = still tx back is.0 tx_is begun (out_of _ is.2)
   claims tx addr (claim.Loading back) tx_is is begun = still tx back is.0 tx_is begun (out_of _ is.2)
   claims tx addr (claim.Outside back) tx_is is begun = still tx back is.0 tx_is begun (out_of _ is.2)
-  claims tx addr (claim.NoMemory back) tx_is is begun = still tx back is.0 tx_is begun (out_of _ is.2)
+  claims tx addr (claim.NoMemory back error) tx_is is begun =
+      still tx back is.0 tx_is begun (out_of (with_refused old.core) is.2)
 
   commits : (job : Job) (tx : ℕ) (done : Outcome) (base : State) (answer : Commit Outcome)
       → old.worker.begun.tx ≡ Some tx → base.begun ≡ none_begun
@@ -122,16 +125,16 @@ module _ (old new : WorkerAndCore) (phase : Phase) where
       still tx back is.0.transaction tx_is (begun_of _ worker) (out_of _ is.0.core)
   commits job tx done base (commit.Foreign back same) tx_is none is worker =
       still tx back is.0.transaction tx_is (begun_of _ worker) (out_of _ is.0.core)
-  commits job tx done base (commit.NoMemory back same) tx_is none is worker =
-      still tx back is.0.transaction tx_is (begun_of _ worker) (out_of _ is.0.core)
+  commits job tx done base (commit.NoMemory back same error) tx_is none is worker =
+      still tx back is.0.transaction tx_is (begun_of _ worker) (out_of (with_refused old.core) is.0.core)
   commits job tx done base (commit.Broken back same) tx_is none is worker =
       still tx back is.0.transaction tx_is (begun_of _ worker) (out_of _ is.0.core)
   commits job tx done base (commit.Spent back same) tx_is none is worker =
       still tx back is.0.transaction tx_is (begun_of _ worker) (out_of _ is.0.core)
 
-  aborts : (tx : ℕ) → old.worker.begun.tx ≡ Some tx → HasAborted tx old.core new.core
+  aborts : (tx : ℕ) → old.worker.begun.tx ≡ Some tx → new.core.out ≡ without tx old.core.out
       → new.worker.begun ≡ none_begun → Turn old new phase
-  aborts tx tx_is has begun = ends tx tx_is begun (out_of _ has.only)
+  aborts tx tx_is out begun = ends tx tx_is begun out
 
 turns : (old new : WorkerAndCore) → Cases old new (λ phase made. Turn old new phase)
 turns old new = record {
@@ -140,7 +143,8 @@ turns old new = record {
   begun = λ job number job_is rules has. begins number refl (ap (λ (s : State). s.begun) has.worker)
       (ap (λ (c : CoreState). c.out) has.core ∙ ap (λ (n : ℕ). n ∷ old.core.out) (sym has.next));
   not_begun = λ job why job_is rules none core worker. rests (ap (λ (s : State). s.begun) worker)
-      (ap (λ (c : CoreState). c.out) core);
+      (unbegun_by (λ (c : CoreState). new.core ≡ c → new.core.out ≡ old.core.out) why old.core
+      (λ same. ap (λ (c : CoreState). c.out) same) (λ one. ap (λ (c : CoreState). c.out) one) core);
   replied = λ job job_is rules core worker. rests (ap (λ (s : State). s.begun) worker)
       (ap (λ (c : CoreState). c.out) core);
   wanted = λ tx addr mode made tx_is next has. wants old new Planning tx addr mode has.answer tx_is has.core
@@ -150,13 +154,15 @@ turns old new = record {
   committed = λ job tx done made tx_is next none job_is has. commits old new Planning job tx done
       (record (with_snap new.worker old.worker) { begun = none_begun }) has.answer tx_is refl has.core
       has.worker;
-  lacked = λ tx made tx_is none has. aborts old new Planning tx tx_is has.core
+  lacked = λ tx made tx_is none has. aborts old new Planning tx tx_is (ap (λ (c : CoreState). c.out) has.core.only)
       (ap (λ (s : State). s.begun) has.worker);
   given = λ ok io made io_is has. gives (ap (λ (s : State). s.begun) has.worker)
       (ap (λ (c : CoreState). c.out) has.only);
-  refused = λ why job tx made job_is tx_is has. aborts old new (Refused why) tx tx_is has.core
+  refused = λ why job tx made job_is tx_is has. aborts old new (Refused why) tx tx_is
+      (ap (λ (c : CoreState). c.out) has.core.only)
       (ap (λ (s : State). s.begun) has.worker);
-  left = λ tx made tx_is has. aborts old new Again tx tx_is has.core (ap (λ (s : State). s.begun) has.worker);
+  left = λ tx made tx_is has. aborts old new Again tx tx_is (ap (λ (c : CoreState). c.out) has.core.only)
+      (ap (λ (s : State). s.begun) has.worker);
   waited = λ place made has. rests (begun_stays place has.settled old.core.log.broken old.worker new.worker
       has.is_reply_sent) (ap (λ (c : CoreState). c.out) has.core);
 }

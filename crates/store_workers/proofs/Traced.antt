@@ -41,7 +41,7 @@ module _ (boot number clock : ℕ) (old : WorkerAndCore) (made : Option Step) (n
   as_ready (Some (step.Commit added (committing.Committed place))) is = refl
   as_ready (Some (step.Commit added committing.Full)) is = sym is
   as_ready (Some (step.Commit added committing.Foreign)) is = sym is
-  as_ready (Some (step.Commit added committing.NoMemory)) is = sym is
+  as_ready (Some (step.Commit added (committing.NoMemory error))) is = sym is
   as_ready (Some (step.Commit added committing.Broken)) is = sym is
   as_ready (Some (step.Commit added committing.Spent)) is = sym is
   as_ready (Some step.Called) is = sym is
@@ -119,7 +119,7 @@ module _ (boot number clock : ℕ) (old : WorkerAndCore) (made : Option Step) (n
       procedure place.0 entry history is.0 is.1
   history_traced (Some (step.Commit added committing.Full)) entry history is = unchanged entry is history
   history_traced (Some (step.Commit added committing.Foreign)) entry history is = unchanged entry is history
-  history_traced (Some (step.Commit added committing.NoMemory)) entry history is = unchanged entry is history
+  history_traced (Some (step.Commit added (committing.NoMemory error))) entry history is = unchanged entry is history
   history_traced (Some (step.Commit added committing.Broken)) entry history is = unchanged entry is history
   history_traced (Some (step.Commit added committing.Spent)) entry history is = unchanged entry is history
   history_traced (Some step.Called) entry history is = unchanged entry is history

@@ -13,7 +13,8 @@ use Rattle.nfs_spec.specs.Model.Calls.{is_answered_stable}
 use Rattle.nfs_types.specs.declared.reply.Reply.{Reply}
 use Rattle.circ.specs.declared.log.outcomes.Seq.{Seq}
 use Rattle.procs.specs.Outcome.{Outcome}
-use Rattle.txn.specs.Core.{CoreState}
+use Rattle.txn.specs.Core.{CoreState, with_refused}
+use Rattle.txn.proofs.Answered.{unbegun_by}
 use Rattle.txn.specs.Leaves.{taken_by, with_taken}
 use Rattle.txn.specs.Outcomes.{IsClaimed, IsCommit, IsWanted}
 use Rattle.txn.specs.LockAnswers.{IsWhole}
@@ -191,6 +192,20 @@ module _ (old new : WorkerAndCore) (beyond : old.worker.begun.tx ≡ None → No
       (sym tx) (subst (λ (as_taken : List LockRequest). IfSome old.worker.begun.tx (λ t. TracesTaken new.core t as_taken)) (sym same_lock_requests)
       (subst (λ (c : CoreState). IfSome old.worker.begun.tx (λ t. TracesTaken c t taken)) (sym core) traces))
 
+  -- nor where memory was refused
+  refused_before : new.core ≡ with_refused old.core → new.worker.begun.tx ≡ old.worker.begun.tx
+      → new.worker.known.taken ≡ taken → TracesAll new.worker new.core
+  refused_before core tx same_lock_requests =
+      subst (λ (found : Option ℕ). IfSome found (λ t. TracesTaken new.core t new.worker.known.taken)) (sym tx)
+      (subst (λ (as_taken : List LockRequest). IfSome old.worker.begun.tx (λ t. TracesTaken new.core t as_taken))
+      (sym same_lock_requests) (by old.worker.begun.tx traces))
+    where
+      by : (found : Option ℕ) → IfSome found (λ t. TracesTaken old.core t taken)
+          → IfSome found (λ t. TracesTaken new.core t taken)
+      by None traced = tt
+      by (Some t) traced =
+          same_trace_list old.core new.core t taken (λ addr. ap (λ (c : CoreState). taken_by c t addr) core) traced
+
   off_taken : (request : LockRequest) (has_space : Bool)
       → (known_off request (record old.worker.known { has_space = has_space })).taken ≡ taken
   off_taken request has_space = by (is_barred request taken)
@@ -209,6 +224,15 @@ module _ (old new : WorkerAndCore) (beyond : old.worker.begun.tx ≡ None → No
     same back lock_requests is core same_lock_requests = subst (λ (n : ℕ). TracesTaken new.core n lock_requests) (sym is)
         (subst (λ (as_taken : List LockRequest). TracesTaken new.core tx as_taken) (sym same_lock_requests)
         (subst (λ (c : CoreState). TracesTaken c tx taken) (sym core) (own tx tx_is)))
+
+    -- memory was refused
+    refused : (back : ℕ) (lock_requests : List LockRequest) → back ≡ tx → new.core ≡ with_refused old.core
+        → lock_requests ≡ taken → TracesTaken new.core back lock_requests
+    refused back lock_requests is core same_lock_requests =
+        subst (λ (n : ℕ). TracesTaken new.core n lock_requests) (sym is)
+        (subst (λ (as_taken : List LockRequest). TracesTaken new.core tx as_taken) (sym same_lock_requests)
+        (same_trace_list old.core new.core tx taken (λ addr. ap (λ (c : CoreState). taken_by c tx addr) core)
+        (own tx tx_is)))
 
     wants : (addr : Addr) (mode : Mode) (has_space : Bool) (answer : Want)
         → IsWanted old.core tx addr mode answer new.core
@@ -229,7 +253,7 @@ module _ (old new : WorkerAndCore) (beyond : old.worker.begun.tx ≡ None → No
     wants addr mode has_space (want.Busy back) is = same back _ is.0 is.2 (off_taken (lock_request.Object addr mode) has_space)
     wants addr mode has_space (want.Loading back) is = same back _ is.0 is.2 (off_taken (lock_request.Object addr mode) has_space)
     wants addr mode has_space (want.Outside back) is = same back _ is.0 is.2 refl
-    wants addr mode has_space (want.NoMemory back) is = same back _ is.0 is.2 refl
+    wants addr mode has_space (want.NoMemory back error) is = refused back _ is.0 is.2 refl
 
     takes : (block : BlockNo) (addr : Addr) (has_space : Bool) (answer : Claim) → IsWhole block addr
         → IsClaimed old.core tx addr answer new.core
@@ -249,7 +273,7 @@ module _ (old new : WorkerAndCore) (beyond : old.worker.begun.tx ≡ None → No
     takes block addr has_space (claim.Busy back) whole is = same back _ is.0 is.2 (off_taken (lock_request.Claim block) has_space)
     takes block addr has_space (claim.Loading back) whole is = same back _ is.0 is.2 (off_taken (lock_request.Claim block) has_space)
     takes block addr has_space (claim.Outside back) whole is = same back _ is.0 is.2 refl
-    takes block addr has_space (claim.NoMemory back) whole is = same back _ is.0 is.2 refl
+    takes block addr has_space (claim.NoMemory back error) whole is = refused back _ is.0 is.2 refl
 
     placed : (job : Job) (reply : Reply) (place : Seq) (base : State) (stable : Bool) → base.begun ≡ none_begun
         → TracesAll (with_entry job reply (answered_or_waiting stable job reply place base)) new.core
@@ -267,8 +291,8 @@ module _ (old new : WorkerAndCore) (beyond : old.worker.begun.tx ≡ None → No
         same back base.known.taken is.0.transaction is.0.core lock_requests
     commits job done base (commit.Foreign back change) none lock_requests is =
         same back base.known.taken is.0.transaction is.0.core lock_requests
-    commits job done base (commit.NoMemory back change) none lock_requests is =
-        same back base.known.taken is.0.transaction is.0.core lock_requests
+    commits job done base (commit.NoMemory back change error) none lock_requests is =
+        refused back base.known.taken is.0.transaction is.0.core lock_requests
     commits job done base (commit.Broken back change) none lock_requests is =
         same back base.known.taken is.0.transaction is.0.core lock_requests
     commits job done base (commit.Spent back change) none lock_requests is =
@@ -319,8 +343,11 @@ module _ (old new : WorkerAndCore) (beyond : old.worker.begun.tx ≡ None → No
     idle = λ is none. subst (λ (s : WorkerAndCore). TracesAll s.worker s.core) (sym is) traces;
     reading = λ is none. subst (λ (s : WorkerAndCore). TracesAll s.worker s.core) (sym is) traces;
     begun = λ job number job_is rules has none. begins job number has (none refl);
-    not_begun = λ job why job_is rules no core worker none. as_before core (ap (λ (s : State). s.begun.tx) worker)
-        (ap (λ (s : State). s.known.taken) worker);
+    not_begun = λ job why job_is rules no core worker none.
+        unbegun_by (λ (c : CoreState). new.core ≡ c → TracesAll new.worker new.core) why old.core
+        (λ same. as_before same (ap (λ (s : State). s.begun.tx) worker) (ap (λ (s : State). s.known.taken) worker))
+        (λ one. refused_before one (ap (λ (s : State). s.begun.tx) worker) (ap (λ (s : State). s.known.taken) worker))
+        core;
     replied = λ job job_is rules core worker none. as_before core (ap (λ (s : State). s.begun.tx) worker)
         (ap (λ (s : State). s.known.taken) worker);
     wanted = λ tx addr mode made tx_is next has none. of_state _ has.worker

@@ -1,5 +1,5 @@
 -- A worker's step, by cases.
-use Rattle.std.proofs.Common.{◌≡◌, refl, sym, ap, subst, ℕ, ◌⊎◌, inl, inr, Bool, true, false, ◌&&◌}
+use Rattle.std.proofs.Common.{◌≡◌, refl, sym, ap, subst, ℕ, ◌⊎◌, inl, inr, Bool, true, false, ◌&&◌, alloc_error}
 use Rattle.std.proofs.Common.{Option, Some, None, Ok, Err, List, [], ◌∷◌, is_some, true≢false}
 use Rattle.std.specs.Prelude.{IsSomeAnd}
 use Rattle.disk.specs.declared.block.BlockNo.{BlockNo}
@@ -30,7 +30,8 @@ use Rattle.store_workers.specs.WorkerAnswers.{claim_answer, committing_of, want_
 use Rattle.store_workers.specs.WorkerSteps.{BeginsBy, EndsBy, GoesByLockRequest, GoesByNext, GoesOn, HasBegun, HasClaimed}
 use Rattle.store_workers.specs.WorkerSteps.{HasCommitted, HasGivenBack, HasLacked, HasLeft}
 use Rattle.store_workers.specs.WorkerSteps.{HasRefused, HasWanted}
-use Rattle.store_workers.specs.WorkerSteps.{IsNext, IsNoBeginning, WorkerAndCore, Waits, given_step}
+use Rattle.store_workers.specs.WorkerSteps.{IsNext, WorkerAndCore, Waits, given_step}
+use Rattle.txn.specs.Outcomes.{IsNoBeginning, unbegun}
 use Rattle.store_workers.specs.declared.workers.parts.Job.{Job}
 use Rattle.store_workers.specs.declared.workers.parts.State.{State}
 use Rattle.store_workers.specs.declared.workers.parts.Phase.{Phase}
@@ -55,7 +56,7 @@ pub record Cases (old new : WorkerAndCore) (P : Phase → Option Step → Type 0
       → HasBegun job old number new → P Called (Some (step.Begun (Ok number)))
   pub not_begun : (job : Job) (why : BeginFault) → old.worker.work.job ≡ Some job
       → begins_transaction job.call ≡ true
-      → IsNoBeginning why old.core → new.core ≡ old.core
+      → IsNoBeginning why old.core → new.core ≡ unbegun why old.core
       → new.worker ≡ with_answer (refusal job.call (cause_of why)) None old.worker
       → P Called (Some (step.Begun (Err why)))
   pub replied : (job : Job) → old.worker.work.job ≡ Some job → begins_transaction job.call ≡ false
@@ -76,7 +77,7 @@ pub record Cases (old new : WorkerAndCore) (P : Phase → Option Step → Type 0
       (committing_of has.answer)))
   pub lacked : (tx : ℕ) (made : Step) → old.worker.begun.tx ≡ Some tx → old.worker.known.left ≡ []
       → HasLacked tx old made new
-      → P Planning (Some (step.Ended ending.NoMemory))
+      → P Planning (Some (step.Ended (ending.NoMemory alloc_error)))
   pub given : (ok : Bool) (io : Fetch) (made : Step) → old.worker.begun.io ≡ Some io
       → HasGivenBack ok io old made new → P (Read ok) (Some (given_step ok io))
   pub refused : (why : Cause) (job : Job) (tx : ℕ) (made : Step) → old.worker.work.job ≡ Some job
@@ -123,7 +124,7 @@ module _ (old new : WorkerAndCore) (P : Phase → Option Step → Type 0) (cases
 
   module _ (tx : ℕ) (tx_is : old.worker.begun.tx ≡ Some tx) (none : old.worker.known.left ≡ []) where
     lacks : (made : Step) → HasLacked tx old made new → P Planning (Some made)
-    lacks made has = so Planning made (step.Ended ending.NoMemory) has.made_is (cases.lacked tx made tx_is none has)
+    lacks made has = so Planning made (step.Ended (ending.NoMemory alloc_error)) has.made_is (cases.lacked tx made tx_is none has)
 
     module _ (done : Outcome) (next : IsNext old.worker (plan.Done done)) where
       commits : (found : Option Job) (made : Step) → old.worker.work.job ≡ found
@@ -167,7 +168,7 @@ module _ (old new : WorkerAndCore) (P : Phase → Option Step → Type 0) (cases
     goes (plan.Claim block) made is has = so Planning made _ has.made_is
         (cases.claimed tx block made tx_is (by_plan (lock_request.Claim block) (plan.Claim block) is) has)
     goes (plan.Done done) made is has = ends done is made has
-    goes plan.NoMemory made is has = lacks made has
+    goes (plan.NoMemory error) made is has = lacks made has
 
   -- what is taken again, with a call and what was read for it
   module _ (tx : ℕ) (tx_is : old.worker.begun.tx ≡ Some tx) (planned : is_planned old.worker.work ≡ true)

@@ -29,7 +29,7 @@ abbrev pub HasReservedFor : Plan → State → Type 0
 HasReservedFor (plan.Need addr mode) state = HasReserved state
 HasReservedFor (plan.Claim block) state = HasReserved state
 HasReservedFor (plan.Done done) state = Unit {0}
-HasReservedFor plan.NoMemory state = Unit {0}
+HasReservedFor (plan.NoMemory error) state = Unit {0}
 
 -- The plan comes next of just what was read for the worker's call, with room for what it asks for: the next step goes by
 -- it.

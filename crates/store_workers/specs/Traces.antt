@@ -19,7 +19,7 @@ abbrev pub committed_as : Committing → State → Option Entry
 committed_as (committing.Committed place) state = state.work.entry
 committed_as committing.Full state = None
 committed_as committing.Foreign state = None
-committed_as committing.NoMemory state = None
+committed_as (committing.NoMemory error) state = None
 committed_as committing.Broken state = None
 committed_as committing.Spent state = None
 

@@ -27,7 +27,7 @@ abbrev pub placed_as : Committing → Option Seq
 placed_as (committing.Committed place) = Some place
 placed_as committing.Full = None
 placed_as committing.Foreign = None
-placed_as committing.NoMemory = None
+placed_as (committing.NoMemory error) = None
 placed_as committing.Broken = None
 placed_as committing.Spent = None
 
@@ -49,6 +49,6 @@ abbrev pub PreservesWitness : {C : Type 0} → Commit C → Option (Given C) →
 PreservesWitness (commit.Committed receipt) before after = after ≡ Some receipt
 PreservesWitness (commit.Full back change) before after = after ≡ before
 PreservesWitness (commit.Foreign back change) before after = after ≡ before
-PreservesWitness (commit.NoMemory back change) before after = after ≡ before
+PreservesWitness (commit.NoMemory back change error) before after = after ≡ before
 PreservesWitness (commit.Broken back change) before after = after ≡ before
 PreservesWitness (commit.Spent back change) before after = after ≡ before

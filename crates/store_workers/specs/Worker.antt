@@ -54,7 +54,7 @@ HasBytes len (want.Busy back) = Unit {0}
 HasBytes len (want.Fetch back io) = Unit {0}
 HasBytes len (want.Loading back) = Unit {0}
 HasBytes len (want.Outside back) = Unit {0}
-HasBytes len (want.NoMemory back) = Unit {0}
+HasBytes len (want.NoMemory back error) = Unit {0}
 
 -- the context of a call that has begun no transaction yet: boot number and transaction are then those of the core
 abbrev pub ctx_of : Credential → Moment → Ctx

@@ -43,7 +43,7 @@ want_answer (want.Busy back) = lock_answer.Busy
 want_answer (want.Fetch back io) = lock_answer.Fetch
 want_answer (want.Loading back) = lock_answer.Loading
 want_answer (want.Outside back) = lock_answer.Outside
-want_answer (want.NoMemory back) = lock_answer.NoMemory
+want_answer (want.NoMemory back error) = lock_answer.NoMemory error
 
 -- who is kept off waits, where it has taken nothing that bars the wait, and else begins again
 abbrev pub phase_off : LockRequest → Knowing → Phase
@@ -58,7 +58,7 @@ phase_wanted addr mode (want.Busy back) knowing = phase_off (lock_request.Object
 phase_wanted addr mode (want.Fetch back io) knowing = Reading
 phase_wanted addr mode (want.Loading back) knowing = phase_off (lock_request.Object addr mode) knowing
 phase_wanted addr mode (want.Outside back) knowing = Refused cause.Io
-phase_wanted addr mode (want.NoMemory back) knowing = Refused cause.NoMemory
+phase_wanted addr mode (want.NoMemory back error) knowing = Refused (cause.NoMemory error)
 
 -- what is taken then
 abbrev pub known_wanted : Addr → Mode → Want → Knowing → Knowing
@@ -67,7 +67,7 @@ known_wanted addr mode (want.Busy back) knowing = known_off (lock_request.Object
 known_wanted addr mode (want.Fetch back io) knowing = with_lock_request (lock_request.Object addr mode) knowing
 known_wanted addr mode (want.Loading back) knowing = known_off (lock_request.Object addr mode) knowing
 known_wanted addr mode (want.Outside back) knowing = knowing
-known_wanted addr mode (want.NoMemory back) knowing = knowing
+known_wanted addr mode (want.NoMemory back error) knowing = knowing
 
 -- the transaction comes back, with a fetch where the block has to be read
 abbrev pub begun_wanted : Want → Begun
@@ -76,7 +76,7 @@ begun_wanted (want.Busy back) = record { tx = Some back; io = None }
 begun_wanted (want.Fetch back io) = record { tx = Some back; io = Some io }
 begun_wanted (want.Loading back) = record { tx = Some back; io = None }
 begun_wanted (want.Outside back) = record { tx = Some back; io = None }
-begun_wanted (want.NoMemory back) = record { tx = Some back; io = None }
+begun_wanted (want.NoMemory back error) = record { tx = Some back; io = None }
 
 -- what was read then: what is taken again isn't looked at
 abbrev pub seen_held : List LockRequest → Addr → Mode → List ℕ → Option Seen → Option Seen
@@ -89,7 +89,7 @@ seen_wanted left addr mode (want.Busy back) seen = seen
 seen_wanted left addr mode (want.Fetch back io) seen = seen
 seen_wanted left addr mode (want.Loading back) seen = seen
 seen_wanted left addr mode (want.Outside back) seen = seen
-seen_wanted left addr mode (want.NoMemory back) seen = seen
+seen_wanted left addr mode (want.NoMemory back error) seen = seen
 
 -- its block is to be fetched then
 abbrev pub asked_wanted : Addr → Mode → Want → Asking → Asking
@@ -98,7 +98,7 @@ asked_wanted addr mode (want.Held back bytes) asked = asked
 asked_wanted addr mode (want.Busy back) asked = asked
 asked_wanted addr mode (want.Loading back) asked = asked
 asked_wanted addr mode (want.Outside back) asked = asked
-asked_wanted addr mode (want.NoMemory back) asked = asked
+asked_wanted addr mode (want.NoMemory back error) asked = asked
 
 -- ---- a lock request to claim
 
@@ -107,28 +107,28 @@ claim_answer (claim.Held back) = lock_answer.Held
 claim_answer (claim.Busy back) = lock_answer.Busy
 claim_answer (claim.Loading back) = lock_answer.Loading
 claim_answer (claim.Outside back) = lock_answer.Outside
-claim_answer (claim.NoMemory back) = lock_answer.NoMemory
+claim_answer (claim.NoMemory back error) = lock_answer.NoMemory error
 
 abbrev pub phase_claimed : BlockNo → Claim → Knowing → Phase
 phase_claimed block (claim.Held back) knowing = Planning
 phase_claimed block (claim.Busy back) knowing = phase_off (lock_request.Claim block) knowing
 phase_claimed block (claim.Loading back) knowing = phase_off (lock_request.Claim block) knowing
 phase_claimed block (claim.Outside back) knowing = Refused cause.Io
-phase_claimed block (claim.NoMemory back) knowing = Refused cause.NoMemory
+phase_claimed block (claim.NoMemory back error) knowing = Refused (cause.NoMemory error)
 
 abbrev pub known_claimed : BlockNo → Claim → Knowing → Knowing
 known_claimed block (claim.Held back) knowing = with_lock_request (lock_request.Claim block) knowing
 known_claimed block (claim.Busy back) knowing = known_off (lock_request.Claim block) knowing
 known_claimed block (claim.Loading back) knowing = known_off (lock_request.Claim block) knowing
 known_claimed block (claim.Outside back) knowing = knowing
-known_claimed block (claim.NoMemory back) knowing = knowing
+known_claimed block (claim.NoMemory back error) knowing = knowing
 
 abbrev pub begun_claimed : Claim → Begun
 begun_claimed (claim.Held back) = record { tx = Some back; io = None }
 begun_claimed (claim.Busy back) = record { tx = Some back; io = None }
 begun_claimed (claim.Loading back) = record { tx = Some back; io = None }
 begun_claimed (claim.Outside back) = record { tx = Some back; io = None }
-begun_claimed (claim.NoMemory back) = record { tx = Some back; io = None }
+begun_claimed (claim.NoMemory back error) = record { tx = Some back; io = None }
 
 abbrev pub seen_taken : List LockRequest → BlockNo → Option Seen → Option Seen
 seen_taken [] block seen = with_claim block seen
@@ -139,7 +139,7 @@ seen_claimed left block (claim.Held back) seen = seen_taken left block seen
 seen_claimed left block (claim.Busy back) seen = seen
 seen_claimed left block (claim.Loading back) seen = seen
 seen_claimed left block (claim.Outside back) seen = seen
-seen_claimed left block (claim.NoMemory back) seen = seen
+seen_claimed left block (claim.NoMemory back error) seen = seen
 
 -- ---- answers to calls
 
@@ -164,7 +164,7 @@ abbrev pub committing_of : {C : Type 0} → Commit C → Committing
 committing_of (commit.Committed receipt) = committing.Committed receipt.place
 committing_of (commit.Full back change) = committing.Full
 committing_of (commit.Foreign back change) = committing.Foreign
-committing_of (commit.NoMemory back change) = committing.NoMemory
+committing_of (commit.NoMemory back change error) = committing.NoMemory error
 committing_of (commit.Broken back change) = committing.Broken
 committing_of (commit.Spent back change) = committing.Spent
 
@@ -197,6 +197,6 @@ after_commit job reply (commit.Committed receipt) state = committed job reply re
 after_commit job reply (commit.Full back change) state = with_tx back Planning state
 after_commit job reply (commit.Foreign back change) state =
     record (with_tx back Again state) { known = without_off state.known }
-after_commit job reply (commit.NoMemory back change) state = with_tx back (Refused cause.NoMemory) state
+after_commit job reply (commit.NoMemory back change error) state = with_tx back (Refused (cause.NoMemory error)) state
 after_commit job reply (commit.Broken back change) state = with_tx back (Refused cause.Io) state
 after_commit job reply (commit.Spent back change) state = with_tx back (Refused cause.Spent) state

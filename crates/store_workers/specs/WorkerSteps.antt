@@ -1,6 +1,6 @@
 -- The step by which a worker goes on, by its phase: which step, and what it leaves of the worker and of the
 -- core.
-use Rattle.std.specs.Prelude.{◌≡◌, ◌⊎◌, ◌↔◌, ℕ, ◌+◌, ◌^◌, ◌<◌, ◌≤◌, Bool, true, false, if◌then◌else◌, IsTrue}
+use Rattle.std.specs.Prelude.{◌≡◌, ◌⊎◌, ◌↔◌, ℕ, ◌+◌, ◌^◌, ◌<◌, ◌≤◌, Bool, true, false, if◌then◌else◌, IsTrue, alloc_error}
 use Rattle.std.specs.Prelude.{Option, Some, None, Ok, Err, List, [], ◌∷◌, IsSomeAnd}
 use Rattle.disk.specs.Crash.{Image}
 use Rattle.disk.specs.declared.block.BlockNo.{BlockNo}
@@ -17,15 +17,14 @@ use Rattle.procs.specs.declared.next.Plan.{Plan}
 use Rattle.procs.specs.declared.next.Plan.TheVariants as plan
 use Rattle.inode.specs.declared.snap.Snap.{Snap}
 use Rattle.txn.specs.Commit.{Planned}
-use Rattle.txn.specs.Core.{CoreState, with_begun, without}
+use Rattle.txn.specs.Core.{CoreState, with_begun, with_refused, without}
 use Rattle.txn.specs.CoreWindow.{IsHomeOf, IsPending, PreservesReads}
 use Rattle.txn.specs.Fetch.{Fetch}
 use Rattle.txn.specs.Group.{blocks_of}
 use Rattle.txn.specs.Leaves.{Leaves, but_by, in_memory, is_fetching, taken_by, with_content, without_fetch}
-use Rattle.txn.specs.Outcomes.{IsClaimed, IsCommit, IsSetBy, IsWanted}
+use Rattle.txn.specs.Outcomes.{IsClaimed, IsCommit, IsNoBeginning, IsSetBy, IsWanted, unbegun}
 use Rattle.txn.specs.LockAnswers.{IsWhole}
 use Rattle.txn.specs.declared.outcomes.BeginFault.{BeginFault}
-use Rattle.txn.specs.declared.outcomes.BeginFault.TheVariants as fault
 use Rattle.txn.specs.declared.outcomes.Claim.{Claim}
 use Rattle.txn.specs.declared.outcomes.Commit.{Commit}
 use Rattle.txn.specs.declared.outcomes.Want.{Want}
@@ -74,12 +73,6 @@ with_snap new old = record old {
 
 -- ---- a transaction is begun
 
--- why none is begun
-abbrev pub IsNoBeginning : BeginFault → CoreState → Type 0
-IsNoBeginning fault.Broken core = core.log.broken ≡ true
-IsNoBeginning fault.Spent core = (core.log.broken ≡ false) × (core.begun + 1 ≡ 2 ^ 64)
-IsNoBeginning fault.NoMemory core = (core.log.broken ≡ false) × (core.begun + 1 < 2 ^ 64)
-
 -- the job, in this boot and in the transaction of this number
 abbrev pub numbered : ℕ → ℕ → Job → Job
 numbered boot number job = record job { ctx = record job.ctx { boot = boot; transaction = number } }
@@ -107,10 +100,11 @@ pub record HasBegun (job : Job) (old : WorkerAndCore) (number : ℕ) (new : Work
   }
   pub seen : IsSomeAnd (seen_in new.worker.work.planner) (SawNothing old.core)
 
--- A call begins a transaction, or is told why none was begun; NULL is answered.
+-- A call begins a transaction, or is told why none was begun, where memory that was refused is counted; NULL is
+-- answered.
 abbrev pub BeginsBy : Bool → Job → WorkerAndCore → Step → WorkerAndCore → Type 0
 BeginsBy true job old (step.Begun (Ok number)) new = HasBegun job old number new
-BeginsBy true job old (step.Begun (Err why)) new = IsNoBeginning why old.core × (new.core ≡ old.core)
+BeginsBy true job old (step.Begun (Err why)) new = IsNoBeginning why old.core × (new.core ≡ unbegun why old.core)
     × (new.worker ≡ with_answer (refusal job.call (cause_of why)) None old.worker)
 BeginsBy true job old _ new = ⊥
 BeginsBy false job old made new = (made ≡ step.Replied) × (new.core ≡ old.core)
@@ -175,11 +169,11 @@ pub record HasAborted (tx : ℕ) (old new : CoreState) : Type 0 where
   pub only : new ≡ record old { out = without tx old.out; holds = new.holds; present = new.present }
   pub leaves : Leaves new (but_by tx (taken_by old)) (is_fetching old) (in_memory old)
 
--- memory was refused, and so the transaction is ended
+-- memory was refused, which is counted, and so the transaction is ended
 pub record HasLacked (tx : ℕ) (old : WorkerAndCore) (made : Step) (new : WorkerAndCore) : Type 0 where
-  pub made_is : made ≡ step.Ended ending.NoMemory
-  pub core : HasAborted tx old.core new.core
-  pub worker : new.worker ≡ with_answer verdict.NoMemory None
+  pub made_is : made ≡ step.Ended (ending.NoMemory alloc_error)
+  pub core : HasAborted tx (with_refused old.core) new.core
+  pub worker : new.worker ≡ with_answer (verdict.NoMemory alloc_error) None
       (record (with_snap new.worker old.worker) { begun = none_begun })
 
 -- a finished plan is committed, or memory was refused before
@@ -192,7 +186,7 @@ abbrev pub GoesByNext : Plan → ℕ → WorkerAndCore → Step → WorkerAndCor
 GoesByNext (plan.Need addr mode) tx old made new = HasWanted tx addr mode old made new
 GoesByNext (plan.Claim block) tx old made new = HasClaimed tx block old made new
 GoesByNext (plan.Done done) tx old made new = EndsBy tx done old made new
-GoesByNext plan.NoMemory tx old made new = HasLacked tx old made new
+GoesByNext (plan.NoMemory error) tx old made new = HasLacked tx old made new
 
 -- a plan for the worker's job says this, by what was read for it
 pub record IsNext (worker : State) (next : Plan) : Type 0 where

@@ -2,6 +2,7 @@
 ghost use Rattle.std.specs.Prelude.{◌≡◌, ℕ, List, Option, IfSome, is_some};
 ghost use Rattle.txn.specs.Core.{CoreState, IsOut};
 ghost use Rattle.txn.specs.WellFormed.{IsWellFormed};
+ghost use Rattle.store_promise.specs.Schedule.{next_refused};
 ghost use Rattle.store_promise.specs.declared.events.Step.{Step};
 ghost use Rattle.store_workers.specs.Single.{HasTakenInPlan};
 ghost use Rattle.store_workers.specs.Unaffected.{IsFetchedBy, IsLeftOf, LeavesOthers, NoneTakenBeyond, TracesAll};
@@ -19,6 +20,13 @@ pub fn a_step_leaves_what_others_have()
         → is_some old.worker.begun.tx ≡ has_transaction old.worker.phase
         → is_some old.worker.begun.io ≡ has_fetch old.worker.phase → GoesOn old.worker.phase old made new
         → LeavesOthers old new }
+{}
+
+/// A step of a worker counts that memory was refused just where it tells so: where it begins no transaction for want of
+/// memory, is answered NoMemory, or ends its transaction for that.
+pub fn a_step_counts_what_was_refused()
+    ensures { (old new : WorkerAndCore) (made : Option Step) → GoesOn old.worker.phase old made new
+        → new.core.refused ≡ next_refused old.core.refused made }
 {}
 
 /// Workers that share a core do so after a step of one of them. Nothing is taken of it for who isn't one of them.

@@ -8,7 +8,8 @@ mod options;
 mod workers;
 
 pub use concurrent_workers::{
-    a_step_leaves_what_others_have, a_worker_has_what_it_takes, workers_share_a_core,
+    a_step_counts_what_was_refused, a_step_leaves_what_others_have, a_worker_has_what_it_takes,
+    workers_share_a_core,
 };
 pub use lone_worker::{a_lone_worker_is_never_deferred, a_lone_worker_stays_single};
 pub use options::put;

@@ -4,19 +4,21 @@ use Rattle.objects.specs.declared.addr.Addr.{Addr}
 use Rattle.objects.specs.declared.mode.Mode.{Mode}
 use Rattle.circ.specs.Log.Log.{IsLawful, newest}
 use Rattle.txn_law.specs.Commit.{Planned, with_record, refreshed_content}
-use Rattle.txn_law.specs.Core.{CoreState, without}
+use Rattle.txn_law.specs.Core.{CoreState, with_refused, without}
 use Rattle.txn_law.specs.CoreLaw.{IsLawfulCore}
 use Rattle.txn_law.specs.CoreWindow.{IsHomeOf, PreservesHome, PreservesReads, SetsOnly}
 use Rattle.txn_law.specs.Leaves.{Leaves, taken_by, is_fetching, in_memory, but_by}
 use Rattle.objects.specs.Object.{ObjectBytes}
 use Rattle.txn_law.specs.WellFormed.{IsWellFormed}
-use Rattle.txn_law.proofs.CoreLaws.{home_held, home_fetch, home_claim}
-use Rattle.txn_law.proofs.HeldReads.{reads_held, reads_fetch, reads_claim}
+use Rattle.txn_law.proofs.CoreLaws.{home_held, home_fetch, home_claim, home_refused}
+use Rattle.txn_law.proofs.HeldReads.{reads_held, reads_fetch, reads_claim, reads_refused}
 use Rattle.txn_law.proofs.Homes.{commit_home, commit_sets}
 use Rattle.txn_law.proofs.OtherReads.{reads_commit}
 use Rattle.txn_law.proofs.Leaves.{leaves_held, leaves_fetch, leaves_claim, leaves_commit}
 use Rattle.txn.specs.Exactly.{IsWantedExactly, IsClaimedExactly, TakesPlaceExactly, IsCommitExactly}
-use Rattle.txn.specs.Outcomes.{IsWanted, IsClaimed, TakesPlace, IsCommit, IsSetBy}
+use Rattle.txn.specs.Outcomes.{IsWanted, IsClaimed, TakesPlace, IsCommit, IsSetBy, unbegun}
+use Rattle.txn.specs.declared.outcomes.BeginFault.{BeginFault}
+use Rattle.txn.specs.declared.outcomes.BeginFault.TheVariants as begin_fault
 use Rattle.txn.specs.declared.outcomes.Want.{Want}
 use Rattle.txn.specs.declared.outcomes.Want.TheVariants as want
 use Rattle.txn.specs.declared.outcomes.Claim.{Claim}
@@ -33,6 +35,16 @@ log_counts K old new blocks inodes k =
 same_home : (old new : CoreState) → new ≡ old → PreservesHome old new
 same_home old new e base h = subst (λ (core : CoreState). IsHomeOf base core) (sym e) h
 
+refused_home : (old new : CoreState) → new ≡ with_refused old → PreservesHome old new
+refused_home old new e base h = subst (λ (core : CoreState). IsHomeOf base core) (sym e) (home_refused old base h)
+
+-- what holds of a core, whether memory was refused or not, holds of what is left where no transaction was begun
+pub unbegun_by : (P : CoreState → Type 0) (why : BeginFault) (core : CoreState) → P core → P (with_refused core)
+    → P (unbegun why core)
+unbegun_by P begin_fault.Broken core same refused = same
+unbegun_by P begin_fault.Spent core same refused = same
+unbegun_by P (begin_fault.NoMemory error) core same refused = refused
+
 pub wanted_home : (old new : CoreState) (tx : ℕ) (addr : Addr) (mode : Mode) (answer : Want)
     → IsWantedExactly old tx addr mode answer new → PreservesHome old new
 wanted_home old new tx addr mode (want.Held back bytes) h = home_held old new tx addr mode bytes h.2
@@ -40,7 +52,7 @@ wanted_home old new tx addr mode (want.Fetch back io) h = home_fetch old new tx 
 wanted_home old new tx addr mode (want.Busy back) h = same_home old new h.2
 wanted_home old new tx addr mode (want.Loading back) h = same_home old new h.2
 wanted_home old new tx addr mode (want.Outside back) h = same_home old new h.2
-wanted_home old new tx addr mode (want.NoMemory back) h = same_home old new h.2
+wanted_home old new tx addr mode (want.NoMemory back error) h = refused_home old new h.2
 
 pub claimed_home : (old new : CoreState) (tx : ℕ) (addr : Addr) (answer : Claim)
     → IsClaimedExactly old tx addr answer new → PreservesHome old new
@@ -49,7 +61,7 @@ claimed_home old new tx addr (claim.Held back) h base home =
 claimed_home old new tx addr (claim.Busy back) h base home = same_home old new h.2 base home
 claimed_home old new tx addr (claim.Loading back) h base home = same_home old new h.2 base home
 claimed_home old new tx addr (claim.Outside back) h base home = same_home old new h.2 base home
-claimed_home old new tx addr (claim.NoMemory back) h base home = same_home old new h.2 base home
+claimed_home old new tx addr (claim.NoMemory back error) h base home = refused_home old new h.2 base home
 
 pub commit_preserves : {C : Type 0} (old new : CoreState) (tx : ℕ) (plan : Planned) (change : C) (answer : Commit C)
     → IsLawful old.log → IsWellFormed old → IsCommitExactly old tx plan change answer new → PreservesHome old new
@@ -61,8 +73,8 @@ commit_preserves old new tx plan change (commit.Full back same) lawful well_form
     same_home old new h.0.core base home
 commit_preserves old new tx plan change (commit.Foreign back same) lawful well_formed h base home =
     same_home old new h.0.core base home
-commit_preserves old new tx plan change (commit.NoMemory back same) lawful well_formed h base home =
-    same_home old new h.0.core base home
+commit_preserves old new tx plan change (commit.NoMemory back same error) lawful well_formed h base home =
+    refused_home old new h.0.core base home
 commit_preserves old new tx plan change (commit.Broken back same) lawful well_formed h base home =
     same_home old new h.0.core base home
 commit_preserves old new tx plan change (commit.Spent back same) lawful well_formed h base home =
@@ -77,7 +89,7 @@ commit_set old new tx plan change (commit.Committed receipt) lawful well_formed 
     h.group.blocks h.group.contents h.group.grown home)
 commit_set old new tx plan change (commit.Full back same) lawful well_formed h = tt
 commit_set old new tx plan change (commit.Foreign back same) lawful well_formed h = tt
-commit_set old new tx plan change (commit.NoMemory back same) lawful well_formed h = tt
+commit_set old new tx plan change (commit.NoMemory back same error) lawful well_formed h = tt
 commit_set old new tx plan change (commit.Broken back same) lawful well_formed h = tt
 commit_set old new tx plan change (commit.Spent back same) lawful well_formed h = tt
 
@@ -85,6 +97,10 @@ commit_set old new tx plan change (commit.Spent back same) lawful well_formed h 
 
 same_reads : (old new : CoreState) → new ≡ old → (other : ℕ) → PreservesReads old new other
 same_reads old new e other = subst (λ (core : CoreState). PreservesReads old core other) (sym e) (λ object h. h)
+
+refused_reads : (old new : CoreState) → new ≡ with_refused old → (other : ℕ) → PreservesReads old new other
+refused_reads old new e other =
+    subst (λ (core : CoreState). PreservesReads old core other) (sym e) (reads_refused old other)
 
 pub wanted_reads : (old new : CoreState) (tx : ℕ) (addr : Addr) (mode : Mode) (answer : Want)
     → IsWantedExactly old tx addr mode answer new → (other : ℕ) → PreservesReads old new other
@@ -94,7 +110,7 @@ wanted_reads old new tx addr mode (want.Fetch back io) h other = reads_fetch old
 wanted_reads old new tx addr mode (want.Busy back) h other = same_reads old new h.2 other
 wanted_reads old new tx addr mode (want.Loading back) h other = same_reads old new h.2 other
 wanted_reads old new tx addr mode (want.Outside back) h other = same_reads old new h.2 other
-wanted_reads old new tx addr mode (want.NoMemory back) h other = same_reads old new h.2 other
+wanted_reads old new tx addr mode (want.NoMemory back error) h other = refused_reads old new h.2 other
 
 pub claimed_reads : (old new : CoreState) (tx : ℕ) (addr : Addr) (answer : Claim)
     → IsClaimedExactly old tx addr answer new → (other : ℕ) → PreservesReads old new other
@@ -103,7 +119,7 @@ claimed_reads old new tx addr (claim.Held back) h other =
 claimed_reads old new tx addr (claim.Busy back) h other = same_reads old new h.2 other
 claimed_reads old new tx addr (claim.Loading back) h other = same_reads old new h.2 other
 claimed_reads old new tx addr (claim.Outside back) h other = same_reads old new h.2 other
-claimed_reads old new tx addr (claim.NoMemory back) h other = same_reads old new h.2 other
+claimed_reads old new tx addr (claim.NoMemory back error) h other = refused_reads old new h.2 other
 
 pub commit_reads : {C : Type 0} (P : ℕ → ℕ → List ObjectBytes → List ObjectBytes → Type 0) (old new : CoreState)
     (tx : ℕ) (plan : Planned) (change : C) (answer : Commit C) → IsLawfulCore P old
@@ -117,8 +133,8 @@ commit_reads P old new tx plan change (commit.Full back same) core h other diffe
     same_reads old new h.0.core other
 commit_reads P old new tx plan change (commit.Foreign back same) core h other differ =
     same_reads old new h.0.core other
-commit_reads P old new tx plan change (commit.NoMemory back same) core h other differ =
-    same_reads old new h.0.core other
+commit_reads P old new tx plan change (commit.NoMemory back same error) core h other differ =
+    refused_reads old new h.0.core other
 commit_reads P old new tx plan change (commit.Broken back same) core h other differ =
     same_reads old new h.0.core other
 commit_reads P old new tx plan change (commit.Spent back same) core h other differ =
@@ -134,7 +150,7 @@ wanted_leaves old new tx addr mode (want.Fetch back io) h = (h.0, h.1, leaves_fe
 wanted_leaves old new tx addr mode (want.Busy back) h = h
 wanted_leaves old new tx addr mode (want.Loading back) h = h
 wanted_leaves old new tx addr mode (want.Outside back) h = h
-wanted_leaves old new tx addr mode (want.NoMemory back) h = h
+wanted_leaves old new tx addr mode (want.NoMemory back error) h = h
 
 pub claimed_leaves : (old new : CoreState) (tx : ℕ) (addr : Addr) (answer : Claim)
     → IsClaimedExactly old tx addr answer new → IsClaimed old tx addr answer new
@@ -142,7 +158,7 @@ claimed_leaves old new tx addr (claim.Held back) h = (h.0, h.1, leaves_claim old
 claimed_leaves old new tx addr (claim.Busy back) h = h
 claimed_leaves old new tx addr (claim.Loading back) h = h
 claimed_leaves old new tx addr (claim.Outside back) h = h
-claimed_leaves old new tx addr (claim.NoMemory back) h = h
+claimed_leaves old new tx addr (claim.NoMemory back error) h = h
 
 place_leaves : (old new : CoreState) (tx : ℕ) (plan : Planned) (place : ℕ) → IsWellFormed old
     → TakesPlaceExactly old tx plan place new → TakesPlace old tx plan place new
@@ -172,6 +188,6 @@ commit_leaves old new tx plan change (commit.Committed receipt) well_formed h =
     place_leaves old new tx plan receipt.place.0 well_formed h
 commit_leaves old new tx plan change (commit.Full back same) well_formed h = h
 commit_leaves old new tx plan change (commit.Foreign back same) well_formed h = h
-commit_leaves old new tx plan change (commit.NoMemory back same) well_formed h = h
+commit_leaves old new tx plan change (commit.NoMemory back same error) well_formed h = h
 commit_leaves old new tx plan change (commit.Broken back same) well_formed h = h
 commit_leaves old new tx plan change (commit.Spent back same) well_formed h = h

@@ -1,5 +1,5 @@
 -- Lemmas: what keeps the lists of a core consistent.
-use Rattle.std.proofs.Common.{◌≡◌, refl, sym, ◌∙◌, subst, ℕ, ◌+◌, ◌≤◌, Bool, true, false, not}
+use Rattle.std.proofs.Common.{◌≡◌, refl, sym, ◌∙◌, subst, ℕ, ◌+◌, ◌^◌, ◌<◌, ◌≤◌, Bool, true, false, not}
 use Rattle.std.proofs.Common.{◌||◌, ◌&&◌, if◌then◌else◌, nat_eq, nat_lt, List, [], ◌∷◌, ◌++◌, length, All}
 use Rattle.std.proofs.Common.{Option, None, arith}
 use Rattle.std.proofs.lemmas.Bool.{ltb-true, lt-ltb, eqb-true}
@@ -22,7 +22,7 @@ use Rattle.txn_law.specs.WellFormed.{AreApart}
 use Rattle.txn_law.specs.Window.{Footprint}
 use Rattle.txn_law.specs.declared.hold.Hold.{Hold}
 use Rattle.txn.specs.Consistent.{IsAsLogged, IsToInstall, IsConsistent}
-use Rattle.txn.specs.Pinned.{total, objects_in, own_in, newly_in}
+use Rattle.txn.specs.Pinned.{AreFew, total, objects_in, own_in, newly_in}
 use Rattle.txn.proofs.Counted.{counted_with, counted_released, counted_past, counted_recorded}
 use Rattle.txn.proofs.Logged.{IsQuiet, logged_with, logged_on, logged_filled}
 
@@ -58,6 +58,7 @@ consistent_stay log holds records old new stay same consistent = record {
   counted = λ at. stay at ∙ consistent.counted at;
   logged = subst (λ (blocks : List Present). All (IsAsLogged log) blocks) (sym same) consistent.logged;
   kept = consistent.kept;
+  few = consistent.few;
 }
 
 -- where an address is taken
@@ -69,6 +70,7 @@ consistent_taken log holds hold records old new apart pins consistent = record {
       omega (arith, c, n, p);
   logged = subst (λ (blocks : List Present). All (IsAsLogged log) blocks) (sym pins.1) consistent.logged;
   kept = consistent.kept;
+  few = consistent.few;
 }
 
 -- where it is taken, or there was no room
@@ -102,6 +104,7 @@ consistent_brought log holds hold records old new content apart absent fits pins
       (All-cons (IsAsLogged log) (record { block = hold.addr.block; content = content }) [] fits
       (All-nil (IsAsLogged log))));
   kept = consistent.kept;
+  few = consistent.few;
 }
 
 -- where a fetch has failed
@@ -113,6 +116,7 @@ consistent_failed log holds records old block consistent = record {
   logged = All-filter (λ (resident : Present). not (nat_eq resident.block.0 block.0) || is_some resident.content)
       (IsAsLogged log) old.blocks consistent.logged;
   kept = consistent.kept;
+  few = consistent.few;
 }
 
 -- where a block was fetched
@@ -125,6 +129,7 @@ consistent_fetched spare log holds records old block content consistent = record
   logged = All-filter (λ resident. spare resident || is_wanted (pins_of old) resident) (IsAsLogged log) (filled old.blocks block content)
       (logged_filled log block content old.blocks consistent.logged);
   kept = consistent.kept;
+  few = consistent.few;
 }
 
 -- what is left of what the log has is what it has
@@ -143,6 +148,7 @@ consistent_ended log holds tx records old new unpins consistent = record {
       omega (arith, c, n, u);
   logged = logged_left log old new (own_in tx holds) unpins consistent.logged;
   kept = consistent.kept;
+  few = consistent.few;
 }
 
 -- where the installer has come further
@@ -159,6 +165,8 @@ consistent_installed before after holds records old new on unpins consistent = r
       else objects_in kept.read at) records) unpins
       (logged_on before after on old.blocks consistent.logged);
   kept = preserved_past before after records on.places consistent.kept;
+  few = All-filter (λ commit. nat_lt (installed_place after) commit.place) (λ commit. length commit.read < 2 ^ 64) records
+      consistent.few;
 }
 
 none_home : (changes : List LogChange) (places : ℕ) → nat_eq (length changes) 0 ≡ true
@@ -200,18 +208,29 @@ module _ (old new : Log) (group : List (BlockNo × Content)) (plan : Planned) (r
           (ltb-true (installed_place new) new.places e, omega arith) (All-nil (IsToInstall new)))
       go false e = preserved_before kept
 
+  few_with : length plan.read < 2 ^ 64 → AreFew records → AreFew (with_record new new.places plan records)
+  few_with one all = go (nat_lt (installed_place new) new.places)
+    where
+      go : (t : Bool) → AreFew (if t then records ++ footprint new.places plan ∷ [] else records)
+      go true = All-append (λ commit. length commit.read < 2 ^ 64) records (footprint new.places plan ∷ []) all
+          (All-cons (λ commit. length commit.read < 2 ^ 64) (footprint new.places plan) [] one
+          (All-nil (λ (commit : Footprint). length commit.read < 2 ^ 64)))
+      go false = all
+
   -- the lists stay consistent where a commit is recorded
   pub consistent_with : (holds : List Hold) (present there : Residents) → All (IsQuiet group) present.blocks
+      → length plan.read < 2 ^ 64
       → ((at : BlockNo) → pins_of there at ≡ pins_of present at
       + (if nat_lt (installed_place new) new.places then objects_in plan.read at else 0))
       → there.blocks ≡ refreshed new present.blocks → IsConsistent old holds records present
       → IsConsistent new holds (with_record new new.places plan records) there
-  consistent_with holds present there quiet pins is consistent = record {
+  consistent_with holds present there quiet few pins is consistent = record {
     counted = λ at. let c = counted_recorded new plan records at in let n = consistent.counted at in
         let p = pins at in omega (arith, c, n, p);
     logged = subst (λ (blocks : List Present). All (IsAsLogged new) blocks) (sym is)
         (logged_with old new group seen present.blocks quiet consistent.logged);
     kept = preserved_with consistent.kept;
+    few = few_with few consistent.few;
   }
 
 -- where the logger or the installer has gone on, and nothing more is installed
@@ -222,4 +241,5 @@ consistent_on old new holds records residents on installed consistent = record {
   counted = consistent.counted;
   logged = logged_on old new on residents.blocks consistent.logged;
   kept = preserved_on old new records installed (omega (arith, on.places)) consistent.kept;
+  few = consistent.few;
 }

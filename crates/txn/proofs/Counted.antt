@@ -276,7 +276,7 @@ counted_recorded log plan records at = go (nat_lt (installed_place log) log.plac
         omega (arith, e)
     go false = omega arith
 
-once_most : (t : Bool) → (if t then 1 else 0) ≤ 1
+pub once_most : (t : Bool) → (if t then 1 else 0) ≤ 1
 once_most true = omega arith
 once_most false = omega arith
 

@@ -27,7 +27,7 @@ met_in_memory : (core new : CoreState) (tx : ℕ) (addr : Addr) (mode : Mode) (c
     → IsWanted core tx addr mode answer new
     → IsMet answer
 met_in_memory core new tx addr mode content (want.Held back bytes) open' there h = tt
-met_in_memory core new tx addr mode content (want.NoMemory back) open' there h = tt
+met_in_memory core new tx addr mode content (want.NoMemory back error) open' there h = tt
 met_in_memory core new tx addr mode content (want.Outside back) open' there h = h.1 open'.inside
 met_in_memory core new tx addr mode content (want.Busy back) open' there h = h.1.1 open'.free
 met_in_memory core new tx addr mode content (want.Loading back) open' there h =

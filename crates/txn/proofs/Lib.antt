@@ -9,6 +9,7 @@ pub mod LoneTransaction
 pub mod OtherSteps
 pub mod OwnChange
 pub mod Fewer
+pub mod FewPins
 pub mod Sides
 pub mod Ended
 pub mod TakenLaw

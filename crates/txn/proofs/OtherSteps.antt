@@ -10,7 +10,7 @@ use Rattle.objects.specs.declared.mode.Mode.{Mode}
 use Rattle.circ.specs.Log.Log.{newest}
 use Rattle.circ.specs.Log.Overlay.{content_or}
 use Rattle.txn_law.specs.Commit.{Planned, refreshed_content}
-use Rattle.txn_law.specs.Core.{CoreState, IsOut, with_begun, without}
+use Rattle.txn_law.specs.Core.{CoreState, IsOut, with_begun, with_refused, without}
 use Rattle.txn_law.specs.CoreWindow.{PreservesReads}
 use Rattle.txn_law.specs.Fetch.{Fetch}
 use Rattle.txn_law.specs.Holds.{for_fetching, for_reading, for_writing, is_hold_of, joined}
@@ -20,6 +20,7 @@ use Rattle.txn_law.specs.Others.{PreservesTaken}
 use Rattle.txn_law.specs.LockAnswers.{IsFetched, IsHeld, IsTaken, TakesOnly}
 use Rattle.txn_law.specs.declared.hold.Hold.{Hold}
 use Rattle.txn_law.proofs.Claims.{all_four}
+use Rattle.txn_law.proofs.HeldReads.{reads_refused}
 use Rattle.txn_law.proofs.Others.{preserves_by}
 use Rattle.txn_law.proofs.StaysWellFormed.{out_still}
 use Rattle.txn.specs.Outcomes.{IsClaimed, IsCommit, IsWanted, TakesPlace}
@@ -38,6 +39,16 @@ preserves_same old new t same = subst (λ (core : CoreState). PreservesTaken old
   reads = λ object is. is;
   loaded = λ addr content some here. (content, here);
 })
+
+-- nothing changes but how often memory was refused
+pub preserves_refused : (old new : CoreState) (t : ℕ) → new ≡ with_refused old → PreservesTaken old new t
+preserves_refused old new t refused =
+    subst (λ (core : CoreState). PreservesTaken old core t) (sym refused) (record {
+      out = λ is. is;
+      taken = λ addr. refl;
+      reads = reads_refused old t;
+      loaded = λ addr content some here. (content, here);
+    })
 
 -- ---- what the others have taken
 
@@ -116,14 +127,14 @@ module _ (old new : CoreState) (tx t : ℕ) (differ : t ≡ tx → ⊥) (reads :
   by_want addr mode (want.Busy back) is = preserves_same old new t is.2
   by_want addr mode (want.Loading back) is = preserves_same old new t is.2
   by_want addr mode (want.Outside back) is = preserves_same old new t is.2
-  by_want addr mode (want.NoMemory back) is = preserves_same old new t is.2
+  by_want addr mode (want.NoMemory back error) is = preserves_refused old new t is.2
 
   pub by_claimed : (addr : Addr) (answer : Claim) → IsClaimed old tx addr answer new → PreservesTaken old new t
   by_claimed addr (claim.Held back) is = by_claim addr is.2
   by_claimed addr (claim.Busy back) is = preserves_same old new t is.2
   by_claimed addr (claim.Loading back) is = preserves_same old new t is.2
   by_claimed addr (claim.Outside back) is = preserves_same old new t is.2
-  by_claimed addr (claim.NoMemory back) is = preserves_same old new t is.2
+  by_claimed addr (claim.NoMemory back error) is = preserves_refused old new t is.2
 
   pub by_end : new.out ≡ without tx old.out
       → Leaves new (but_by tx (taken_by old)) (is_fetching old) (in_memory old) → PreservesTaken old new t
@@ -147,7 +158,7 @@ module _ (old new : CoreState) (tx t : ℕ) (differ : t ≡ tx → ⊥) (reads :
   by_commit C plan change (commit.Committed receipt) is = by_place plan receipt.place.0 is
   by_commit C plan change (commit.Full back same) is = preserves_same old new t is.0.core
   by_commit C plan change (commit.Foreign back same) is = preserves_same old new t is.0.core
-  by_commit C plan change (commit.NoMemory back same) is = preserves_same old new t is.0.core
+  by_commit C plan change (commit.NoMemory back same error) is = preserves_refused old new t is.0.core
   by_commit C plan change (commit.Broken back same) is = preserves_same old new t is.0.core
   by_commit C plan change (commit.Spent back same) is = preserves_same old new t is.0.core
 

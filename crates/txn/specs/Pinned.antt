@@ -48,7 +48,11 @@ reads_in records at = total (λ kept. objects_in kept.read at) records
 
 -- for each of the blocks, so many pins more as there are blocks can be counted
 abbrev pub AreCountable : Residents → List BlockNo → Type 0
-AreCountable residents blocks = All (λ block. pins_of residents block + length blocks < 2 ^ 64) blocks
+AreCountable residents blocks = All (λ block. pins_of residents block + length blocks < 2 ^ 128) blocks
+
+-- Each kept commit read no more objects than a list may have.
+abbrev pub AreFew : List Footprint → Type 0
+AreFew records = All (λ kept. length kept.read < 2 ^ 64) records
 
 -- of each of these blocks a part is taken, or was read by a kept commit, and none of them stands twice
 pub record ArePinned (core : CoreState) (numbers : List ℕ) : Type 0 where

@@ -1,20 +1,20 @@
 //! Committing a change.
-ghost use Rattle.std.specs.Prelude.{◌≡◌, ◌≤◌, ◌<◌, ◌↔◌, ℕ, length, All, IsTrue, true, false};
+ghost use Rattle.std.specs.Prelude.{◌≡◌, ◌≤◌, ◌<◌, ◌↔◌, ℕ, length, All, IfErr, IfOk, IsTrue, true, false};
 ghost use Rattle.circ.specs.Log.Log.{IsHomeOn};
 ghost use Rattle.circ.specs.Log.Room.{IsRoom};
 ghost use Rattle.base.specs.declared.TheConstants.{CHANGED_BLOCKS};
-ghost use Rattle.txn.specs.Exactly.{IsCommitExactly};
-ghost use Rattle.txn.specs.Outcomes.{IsCommit, IsGiven, IsSetBy};
+ghost use Rattle.txn.specs.Exactly.{IsCommitExactly, TakesPlaceExactly};
+ghost use Rattle.txn.specs.Outcomes.{IsCommit, IsGiven, IsRefused, IsSetBy};
 ghost use Rattle.txn_law.specs.Commit.{IsOwn, IsReadBy, IsWrittenBy, HasBytes};
 ghost use Rattle.txn_law.specs.CoreWindow.{PreservesHome, PreservesReads};
 ghost use Rattle.txn_law.specs.Group.{blocks_of};
 
 use crate::outcomes::Commit;
-use crate::records::{Record, block_of_each, can_pin_each, end, keep};
+use crate::records::{Record, block_of_each, can_count_pins, end, keep};
 use crate::refresh::refresh;
 use crate::{Change, Core, Object, Receipt, Tx};
 use disk::BlockNo;
-use std::alloc::Global;
+use std::alloc::{AllocError, Global};
 use txn_groups::{are_sized, blocks_of_objects, group_of, pointers_to};
 use wal::{Append, Room};
 
@@ -24,7 +24,7 @@ impl<C: Change> Core<C> {
     /// for other counts than the core's, writes a block that no change may write, writes what this transaction
     /// doesn't hold alone or whose fetch is pending, or read what it doesn't hold for reading or what differs. Spent:
     /// no place is left, or too few positions of the log. Full: the open group and this change pass the log.
-    /// These and NoMemory change nothing.
+    /// These and NoMemory change nothing, but that memory that was refused is counted.
     pub fn commit(&mut self, alloc: Global, tx: Tx, change: C) -> Commit<C>
         requires { length (blocks_of (C.planned change).written) ≤ CHANGED_BLOCKS }
         ensures answer { IsCommit self.old tx (C.planned change) change result self.new }
@@ -53,37 +53,52 @@ impl<C: Change> Core<C> {
         match self.log.room(blocks.as_slice()) {
             Room::Spent => Commit::Spent(tx, change),
             Room::Full => Commit::Full(tx, change),
-            Room::Fits => self.take_place(alloc, tx, change, blocks.as_slice()),
+            Room::Fits => match self.take_place(alloc, tx, change, blocks.as_slice()) {
+                Ok(receipt) => Commit::Committed(receipt),
+                Err((tx, change, error)) => {
+                    self.refuse(error);
+                    Commit::NoMemory(tx, change, error)
+                }
+            },
         }
     }
 
     // Commits a change of these blocks that is this transaction's and finds room. All room in memory is made
-    // before anything changes.
-    fn take_place(&mut self, alloc: Global, tx: Tx, change: C, blocks: &[BlockNo]) -> Commit<C>
+    // before anything changes; where it is refused the transaction and its change come back.
+    fn take_place(
+        &mut self,
+        alloc: Global,
+        tx: Tx,
+        change: C,
+        blocks: &[BlockNo],
+    ) -> Result<Receipt<C>, (Tx, C, AllocError)>
         requires sound { self.old.log.broken ≡ false }
         requires own { IsOwn self.old tx (C.planned change) }
         requires room { IsRoom self.old.log blocks.now Room.Fits }
         requires blocks { blocks.now ≡ blocks_of (C.planned change).written }
-        ensures answer { IsCommitExactly self.old tx (C.planned change) change result self.new }
-        ensures given { IsGiven change result }
+        ensures taken { IfOk result (λ receipt. TakesPlaceExactly self.old tx (C.planned change) receipt.place.0
+            self.new) }
+        ensures given { IfOk result (λ receipt. receipt.change ≡ change) }
+        ensures refused { IfErr result (λ back. IsRefused self.old tx change back.0 back.1 self.new) }
     {
         are_sized(change.written());
         change.is_planned();
         self.present.lawful();
-        if self.records.reserve(1).is_err() {
-            return Commit::NoMemory(tx, change);
+        can_count_pins(&self.holds, &self.records);
+        if let Err(error) = self.records.reserve(1) {
+            return Err((tx, change, error));
         }
-        let Ok(read) = block_of_each(alloc, change.read()) else {
-            return Commit::NoMemory(tx, change);
+        let read = match block_of_each(alloc, change.read()) {
+            Ok(read) => read,
+            Err(error) => return Err((tx, change, error)),
         };
-        if !can_pin_each(&self.present, read.as_slice()) {
-            return Commit::NoMemory(tx, change);
-        }
-        let Ok(group) = group_of(alloc, &self.present, &self.log, blocks, change.written()) else {
-            return Commit::NoMemory(tx, change);
+        let group = match group_of(alloc, &self.present, &self.log, blocks, change.written()) {
+            Ok(group) => group,
+            Err(error) => return Err((tx, change, error)),
         };
-        let Ok(pointers) = pointers_to(alloc, group.as_slice()) else {
-            return Commit::NoMemory(tx, change);
+        let pointers = match pointers_to(alloc, group.as_slice()) {
+            Ok(pointers) => pointers,
+            Err(error) => return Err((tx, change, error)),
         };
         match self.log.append(group) {
             Append::Appended => {
@@ -96,10 +111,10 @@ impl<C: Change> Core<C> {
                 end(&mut self.out, &mut self.holds, &mut self.present, number);
                 self.log.lawful();
                 self.log.whole();
-                Commit::Committed(Receipt::of(place, change))
+                Ok(Receipt::of(place, change))
             }
-            Append::Full => Commit::Full(tx, change),
-            Append::NoMemory => Commit::NoMemory(tx, change),
+            Append::NoMemory(error) => Err((tx, change, error)),
+            Append::Full => unreachable!(),
         }
     }
 

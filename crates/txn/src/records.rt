@@ -1,12 +1,13 @@
 //! The commits that aren't installed, and the pins of what they read and of what transactions hold; how a transaction ends.
-ghost use Rattle.std.specs.Prelude.{◌≡◌, ◌<◌, ◌↔◌, ◌++◌, ◌∷◌, [], if◌then◌else◌, nat_eq, nat_lt, not};
-ghost use Rattle.std.specs.Prelude.{All, IfOk, IsTrue};
+ghost use Rattle.std.specs.Prelude.{◌≡◌, ◌+◌, ◌^◌, ◌<◌, ◌≤◌, ◌++◌, ◌∷◌, [], if◌then◌else◌, nat_eq, nat_lt, not};
+ghost use Rattle.std.specs.Prelude.{All, IfOk, length};
 ghost use Rattle.std.specs.List.{filter};
 ghost use Rattle.std.specs.VecDeque.{deque_len, deque_capacity};
 ghost use Rattle.objects.specs.Pins.{Pins, Unpins, once_at, pins_of};
 ghost use Rattle.txn_law.specs.Core.{without};
 ghost use Rattle.txn_law.specs.Holds.{released};
-ghost use Rattle.txn.specs.Pinned.{AreCountable, count_in, objects_in, own_in, block_of_each, total};
+ghost use Rattle.txn.specs.Pinned.{AreCountable, AreFew, block_of_each, count_in, holds_in, objects_in, own_in, reads_in};
+ghost use Rattle.txn.specs.Pinned.{total};
 
 use crate::{Change, Object};
 use disk::BlockNo;
@@ -46,8 +47,10 @@ impl<C: Change> Record<C> {
     /// The record of a change that took a place, with the block of each object that it read.
     pub(crate) fn of(place: Seq, blocks: Vec<BlockNo>, change: &C) -> Record<C>
         requires { blocks.items ≡ block_of_each (C.planned change.now).read }
-        ensures { result ≡ footprint place.0 (C.planned change.now) }
+        ensures is { result ≡ footprint place.0 (C.planned change.now) }
+        ensures few { length (C.planned change.now).read < 2 ^ 64 }
     {
+        let _ = blocks.len();
         Record {
             place,
             blocks,
@@ -80,12 +83,16 @@ pub(crate) fn block_of_each(alloc: Global, objects: &[Object]) -> Result<Vec<Blo
         .collect(alloc)
 }
 
-/// Whether each of the blocks can be pinned once more for each of them.
-pub(crate) fn can_pin_each(present: &Residency, blocks: &[BlockNo]) -> bool
-    ensures { IsTrue result ↔ AreCountable present.now blocks.now }
+/// The pins of each block, one for each hold of a part of it and for each object that a record read in it, can be
+/// counted, and as many more as a list has entries.
+#[tactic(auto, using(crate::proofs::FewPins::pins_few))]
+pub(crate) fn can_count_pins<C: Change>(holds: &Table, records: &VecDeque<Record<C>>)
+    requires { AreFew records.now.items }
+    ensures { (at : BlockNo) → holds_in holds.now at + reads_in records.now.items at + 2 ^ 64 ≤ 2 ^ 128 }
 {
-    let more = blocks.len();
-    blocks.iter().all(|block| present.can_pin(*block, more))
+    let taken = holds.holds().len();
+    let kept = records.len();
+    let _ = (taken, kept);
 }
 
 // Pins each of the blocks once more, all of which are pinned.

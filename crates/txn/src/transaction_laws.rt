@@ -8,7 +8,7 @@ ghost use Rattle.objects.specs.declared.addr.Addr.{Addr};
 ghost use Rattle.objects.specs.declared.mode.Mode.{Mode};
 ghost use Rattle.objects.specs.declared.mode.Mode.TheVariants as modes;
 ghost use Rattle.txn_law.specs.Commit.{IsOwn, IsReadBy, Planned};
-ghost use Rattle.txn_law.specs.Core.{CoreState, IsOut, with_begun, without};
+ghost use Rattle.txn_law.specs.Core.{CoreState, IsOut, with_begun, with_refused, without};
 ghost use Rattle.txn_law.specs.CoreWindow.{PreservesReads};
 ghost use Rattle.txn_law.specs.Leaves.{HasFetched, Leaves, but_by, in_memory, taken_by, is_fetching};
 ghost use Rattle.txn_law.specs.Leaves.{without_fetch};
@@ -51,6 +51,7 @@ pub fn a_lone_transaction_is_not_deferred()
 pub fn others_keep_what_they_have()
     ensures begun { (old new : CoreState) (other : ℕ) → PreservesReads old new other → new ≡ with_begun old
         → PreservesTaken old new other }
+    ensures refused { (old new : CoreState) (other : ℕ) → new ≡ with_refused old → PreservesTaken old new other }
     ensures wanted { (old new : CoreState) (tx other : ℕ) → (other ≡ tx → ⊥) → PreservesReads old new other
         → (addr : Addr) (mode : Mode) (answer : Want) → IsWanted old tx addr mode answer new
         → PreservesTaken old new other }

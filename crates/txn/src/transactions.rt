@@ -1,16 +1,17 @@
 //! The core: who has taken what, what is in memory, and the commits that aren't installed.
-ghost use Rattle.std.specs.Prelude.{◌≡◌, ◌≤◌, ◌<◌, ◌+◌, ◌*◌, ◌^◌, ◌↔◌, IsTrue, IsSome, IfOk, IfSome, IsErrOf, OnErr};
+ghost use Rattle.std.specs.Prelude.{◌≡◌, ◌≤◌, ◌<◌, ◌+◌, ◌*◌, ◌^◌, ◌↔◌, IsTrue, IsSome, IfOk, IfErr, IfSome, IsErrOf};
 ghost use Rattle.std.specs.List.{list_any};
 ghost use Rattle.std.specs.Prelude.{ℕ, List, nat_eq, true, false, [], length};
 ghost use Rattle.base.specs.declared.TheConstants.{CHANGED_BLOCKS, CLEAN_BLOCKS};
 ghost use Rattle.circ.specs.Log.Log.{settled_place, tail_count, added_blocks, IsHomeOn};
-ghost use Rattle.txn_law.specs.Core.{IsOut, with_begun, without};
+ghost use Rattle.txn_law.specs.Core.{IsOut, with_begun, with_refused, without};
 ghost use Rattle.txn_law.specs.CoreLaw.{IsFresh, IsLawfulCore};
 ghost use Rattle.txn_law.specs.CoreWindow.{PreservesHome, PreservesReads};
 ghost use Rattle.txn_law.specs.Group.{blocks_of};
 ghost use Rattle.txn_law.specs.Leaves.{Leaves, taken_by, is_fetching, in_memory, but_by};
 ghost use Rattle.txn_law.specs.LockAnswers.{IsInside};
 ghost use Rattle.txn.specs.Answering.{OfSome};
+ghost use Rattle.txn.specs.Outcomes.{IsNoBeginning, unbegun};
 ghost use Rattle.txn.specs.Pinned.{ArePinned};
 ghost use Rattle.txn.specs.Unneeded.{unneeded};
 
@@ -24,7 +25,7 @@ use disk::BlockNo;
 use http_server::Log;
 use locks::Table;
 use objects::{Addr, Residency};
-use std::alloc::Global;
+use std::alloc::{AllocError, Global};
 use std::collections::VecDeque;
 use std::marker::Model;
 use txn_groups::blocks_of_objects;
@@ -51,6 +52,8 @@ pub struct Core<C: Change> {
     // How many device calls of the log were handed out, and how many of the installer: for proofs alone.
     pub(crate) log_calls: Log<(), ()>,
     pub(crate) inst_calls: Log<(), ()>,
+    // How often memory was refused to transactions: for proofs alone.
+    pub(crate) refused: Log<AllocError, ()>,
 }
 
 impl<C: Change> Model for Core<C> {
@@ -63,17 +66,17 @@ impl<C: Change> Model for Core<C> {
     ghost Value = { CoreState };
 
     ghost view = { λ c. core_of c.log c.inodes c.begun c.out.items c.holds c.present.blocks c.records.items c.boot
-        (length c.log_calls.items) (length c.inst_calls.items) };
+        (length c.log_calls.items) (length c.inst_calls.items) (length c.refused.items) };
 
     ghost invariant = { λ c. IsConsistent c.log c.holds c.records.items c.present
         × IsLawfulCore (OfSome C.is_plan) (core_of c.log c.inodes c.begun c.out.items c.holds c.present.blocks
-        c.records.items c.boot (length c.log_calls.items) (length c.inst_calls.items))
+        c.records.items c.boot (length c.log_calls.items) (length c.inst_calls.items) (length c.refused.items))
         × C.are_counts c.log.blocks c.inodes };
 }
 
 impl<C: Change> Core<C> {
     /// A core over a log, for an image with the log's blocks, this count of inodes, and this boot number. No device
-    /// call was handed out.
+    /// call was handed out, and no memory refused.
     pub fn new(alloc: Global, log: Wal, inodes: u32, boot: u64) -> Core<C>
         requires fresh { IsFresh log }
         requires counts { C.are_counts log.blocks inodes }
@@ -88,6 +91,7 @@ impl<C: Change> Core<C> {
           boot = boot;
           log_calls = 0;
           inst_calls = 0;
+          refused = 0;
         } }
     {
         log.lawful();
@@ -103,6 +107,7 @@ impl<C: Change> Core<C> {
             boot,
             log_calls: Log::new(),
             inst_calls: Log::new(),
+            refused: Log::new(),
         }
     }
 
@@ -151,17 +156,15 @@ impl<C: Change> Core<C> {
 
     /// Begins a transaction beside those that are out. Transactions are numbered from 1. Broken: a write or a
     /// barrier has failed. Spent: no number is left. NoMemory: there was no room to note it. They are tested in
-    /// this order, and change nothing.
+    /// this order, and change nothing, but that memory that was refused is counted.
     pub fn begin(&mut self) -> Result<Tx, BeginFault>
         ensures begun { IfOk result (λ tx. (tx ≡ self.old.begun + 1)
             × (self.new ≡ with_begun self.old)) }
         ensures counted { IfOk result (λ tx. tx < 2 ^ 64) }
-        ensures refused { OnErr result (self.new ≡ self.old) }
+        ensures refused { IfErr result (λ why. IsNoBeginning why self.old × (self.new ≡ unbegun why self.old)) }
         ensures broken { IsErrOf result BeginFault.Broken ↔ (self.old.log.broken ≡ true) }
         ensures spent { IsErrOf result BeginFault.Spent
             ↔ ((self.old.log.broken ≡ false) × (self.old.begun + 1 ≡ 2 ^ 64)) }
-        ensures no_memory { IsErrOf result BeginFault.NoMemory → (self.old.log.broken ≡ false)
-            × (self.old.begun + 1 < 2 ^ 64) }
         ensures stays { (other : ℕ) → PreservesReads self.old self.new other }
         ensures preserves { PreservesHome self.old self.new }
     {
@@ -172,8 +175,10 @@ impl<C: Change> Core<C> {
             return Err(BeginFault::Spent);
         }
         let number = self.begun + 1;
-        if self.out.insert(0, number).is_err() {
-            return Err(BeginFault::NoMemory);
+        if let Err(failed) = self.out.insert(0, number) {
+            let error = AllocError::from(failed);
+            self.refuse(error);
+            return Err(BeginFault::NoMemory(error));
         }
         self.begun = number;
         Ok(Tx { number })
@@ -194,6 +199,32 @@ impl<C: Change> Core<C> {
     {
         let Tx { number } = tx;
         end(&mut self.out, &mut self.holds, &mut self.present, number);
+    }
+
+    /// Ends a transaction as `abort` does, whose worker was refused memory, and counts that.
+    pub fn abort_for(&mut self, tx: Tx, error: AllocError)
+        ensures only { self.new ≡ record self.old {
+          out = without tx self.old.out;
+          holds = self.new.holds;
+          present = self.new.present;
+          refused = self.old.refused + 1;
+        } }
+        ensures leaves { Leaves self.new (but_by tx (taken_by self.old)) (is_fetching self.old)
+            (in_memory self.old) }
+        ensures stays { (other : ℕ) → (other ≡ tx → ⊥) → PreservesReads self.old self.new other }
+        ensures preserves { PreservesHome self.old self.new }
+    {
+        self.abort(tx);
+        self.refuse(error);
+    }
+
+    /// Counts that memory was refused.
+    pub fn refuse(&mut self, error: AllocError)
+        ensures counted { self.new ≡ with_refused self.old }
+        ensures stays { (other : ℕ) → PreservesReads self.old self.new other }
+        ensures preserves { PreservesHome self.old self.new }
+    {
+        note(&mut self.refused, error);
     }
 
     // Whether the transaction is out, and a change may write the address's block.
@@ -266,6 +297,13 @@ impl<C: Change> Core<C> {
     {
         self.log.broken()
     }
+}
+
+// Notes that memory was refused.
+fn note(refused: &mut Log<AllocError, ()>, error: AllocError)
+    ensures { length refused.new.items ≡ length refused.old.items + 1 }
+{
+    *refused = refused.and(&error, &());
 }
 
 // Whether the number is among these.

@@ -1,5 +1,5 @@
 //! Reading and claiming what a transaction works on.
-ghost use Rattle.std.specs.Prelude.{◌≡◌, ◌-◌, ◌<◌, Bool, if◌then◌else◌, IfOk, OnOk, OnErr, None, Some, true};
+ghost use Rattle.std.specs.Prelude.{◌≡◌, ◌+◌, ◌-◌, ◌^◌, ◌<◌, Bool, if◌then◌else◌, IfOk, OnOk, OnErr, None, Some, true};
 ghost use Rattle.std.specs.Prelude.{ℕ, IfSome, length};
 ghost use Rattle.disk.specs.Crash.{Image};
 ghost use Rattle.disk.specs.Device.{Content, Device, current, newest as newest_content};
@@ -7,6 +7,7 @@ ghost use Rattle.disk.specs.declared.block.BlockNo.{BlockNo as BlockNumber};
 ghost use Rattle.objects.specs.Pins.{Pins, PinsStay, once_at, pins_of};
 ghost use Rattle.objects.specs.Present.{bytes_in, content_in, present_of};
 ghost use Rattle.objects.specs.declared.addr.Addr.{Addr};
+ghost use Rattle.objects.specs.declared.mode.Mode.TheVariants as modes;
 ghost use Rattle.circ.specs.Log.Calls.{AgreesWithPending, Pending};
 ghost use Rattle.circ.specs.Log.Log.{newest};
 ghost use Rattle.txn_law.specs.CoreLaw.{IsLawfulCore};
@@ -14,7 +15,7 @@ ghost use Rattle.txn_law.specs.CoreWindow.{IsHomeOf, PreservesHome, PreservesRea
 ghost use Rattle.txn_law.specs.Holds.{IsFree, with_hold};
 ghost use Rattle.txn_law.specs.HomeRead.{IsReadable, HasContents};
 ghost use Rattle.txn_law.specs.Leaves.{Leaves, HasFetched, taken_by, is_fetching, in_memory, without_fetch};
-ghost use Rattle.txn_law.specs.Lists.{taken};
+ghost use Rattle.txn_law.specs.Lists.{claimed, taken};
 ghost use Rattle.txn_law.specs.LockAnswers.{IsOpen, IsWhole};
 ghost use Rattle.txn.specs.Answering.{OfSome};
 ghost use Rattle.txn.specs.Exactly.{IsWantedExactly, IsClaimedExactly};
@@ -23,6 +24,7 @@ ghost use Rattle.txn.specs.Pinned.{newly_in};
 ghost use Rattle.txn.specs.Source.{IsSource, IsSourceWithin};
 
 use crate::outcomes::{Claim, Want};
+use crate::records::can_count_pins;
 use crate::{Change, Core, FetchIo, Tx};
 use disk::{Block, BlockNo, SharedBlock};
 use locks::{Hold, Table, for_fetching, for_reading, for_writing};
@@ -41,7 +43,7 @@ impl<C: Change> Core<C> {
     /// another transaction has taken a byte of it, and it or this one takes that alone; or this one has taken a byte
     /// of it by another address. Loading: a fetch of the block is pending, and nothing is taken. They are tested in
     /// this order. Fetch: the block has to be read from home; the object is taken, and the same want after `fetched`
-    /// answers Held or NoMemory. NoMemory: nothing has changed. An object that this transaction shares is raised by a
+    /// answers Held or NoMemory. NoMemory: nothing has changed, but that the refusal is counted. An object that this transaction shares is raised by a
     /// want of it alone, where no other transaction shares it.
     pub fn want(&mut self, alloc: Global, tx: Tx, addr: Addr, mode: Mode) -> Want
         ensures answer { IsWanted self.old tx addr mode result self.new }
@@ -69,7 +71,10 @@ impl<C: Change> Core<C> {
         match self.take_for_reading(alloc, tx.number, addr, mode) {
             Ok(Source::Bytes(bytes)) => Want::Held(tx, bytes),
             Ok(Source::Fetch(io)) => Want::Fetch(tx, io),
-            Err(_) => Want::NoMemory(tx),
+            Err(error) => {
+                self.refuse(error);
+                Want::NoMemory(tx, error)
+            }
         }
     }
 
@@ -96,15 +101,29 @@ impl<C: Change> Core<C> {
         if self.present.is_pending(addr.block) {
             return Claim::Loading(tx);
         }
+        match self.take_for_writing(tx.number, addr) {
+            Ok(()) => Claim::Held(tx),
+            Err(error) => {
+                self.refuse(error);
+                Claim::NoMemory(tx, error)
+            }
+        }
+    }
+
+    // Takes a block by the address of all of it, which is free. Where there is no room nothing changes.
+    fn take_for_writing(&mut self, transaction: u64, addr: Addr) -> Result<(), AllocError>
+        requires whole { IsWhole addr.block addr }
+        requires free { IsOpen self.old transaction addr modes.Exclusive }
+        ensures taken { OnOk result (self.new ≡ claimed self.old transaction addr) }
+        ensures refused { OnErr result (self.new ≡ self.old) }
+    {
         self.holds.lawful();
-        match take(
+        can_count_pins(&self.holds, &self.records);
+        take(
             &mut self.holds,
             &mut self.present,
-            for_writing(tx.number, addr),
-        ) {
-            Ok(()) => Claim::Held(tx),
-            Err(_) => Claim::NoMemory(tx),
-        }
+            for_writing(transaction, addr),
+        )
     }
 
     // Takes the object, which is free, and its block's place in memory where it has none. Where there is no room
@@ -123,6 +142,7 @@ impl<C: Change> Core<C> {
     {
         if let Some(bytes) = self.bytes_at(alloc, addr)? {
             self.holds.lawful();
+            can_count_pins(&self.holds, &self.records);
             take(
                 &mut self.holds,
                 &mut self.present,
@@ -168,6 +188,7 @@ impl<C: Change> Core<C> {
         self.holds.lawful();
         let block = hold.addr.block;
         let again = self.holds.is_held_by(hold.transaction, hold.addr);
+        can_count_pins(&self.holds, &self.records);
         self.present.bring(block, content)?;
         if let Err(none) = track(&mut self.holds, hold) {
             self.present.take_back(block);
@@ -224,7 +245,8 @@ fn settle(present: &mut Residency, block: BlockNo, again: bool)
 // Takes what a lock request is for that nothing keeps off, and pins its block for it, where the transaction hadn't taken
 // the address.
 fn take(holds: &mut Table, present: &mut Residency, hold: Hold) -> Result<(), AllocError>
-    requires { IsFree holds.old hold.transaction hold.addr hold.mode }
+    requires free { IsFree holds.old hold.transaction hold.addr hold.mode }
+    requires countable { pins_of present.old hold.addr.block + 1 < 2 ^ 128 }
     ensures taken { OnOk result (holds.new ≡ with_hold holds.old hold) }
     ensures pinned { OnOk result (Pins present.old (newly_in holds.old hold) present.new) }
     ensures refused { OnErr result (holds.new ≡ holds.old) }

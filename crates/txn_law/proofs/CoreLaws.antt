@@ -19,7 +19,7 @@ use Rattle.circ.specs.Log.Logger.{with_log_out, with_log_back}
 use Rattle.circ.specs.Log.Log.{Log, IsLawful, newest, installed_place, blocks_of as group_blocks}
 use Rattle.circ.proofs.LogLemmas.Effects.{seen_inst_done}
 use Rattle.txn_law.specs.Commit.{Planned, IsOwn, committed}
-use Rattle.txn_law.specs.Core.{CoreState, with_begun, with_log_call, with_inst_call, past, installed, ended}
+use Rattle.txn_law.specs.Core.{CoreState, with_begun, with_log_call, with_inst_call, with_refused, past, installed, ended}
 use Rattle.txn_law.specs.CoreLaw.{IsFresh, IsPlanned, IsLawfulCore}
 use Rattle.txn_law.specs.CoreWindow.{held_of, IsCoreWindow, AreBlocks, IsHomeOf, PreservesHome}
 use Rattle.txn_law.specs.Fetch.{Fetch}
@@ -41,7 +41,7 @@ use Rattle.txn_law.proofs.OtherHome.{either}
 use Rattle.txn_law.proofs.Swept.{or-true, window_swept, core_installed}
 use Rattle.txn_law.proofs.WellFormedCommit.{well_formed_commit}
 use Rattle.txn_law.proofs.StaysWellFormed.{well_formed_held, well_formed_fetch, well_formed_claim, well_formed_end, well_formed_fetched, well_formed_failed}
-use Rattle.txn_law.proofs.StaysWellFormed.{well_formed_installed, well_formed_log, well_formed_call}
+use Rattle.txn_law.proofs.StaysWellFormed.{well_formed_installed, well_formed_log, well_formed_call, well_formed_refused}
 use Rattle.txn_law.proofs.LockAnswers.{core_held, core_fetch, core_claim, core_end}
 
 -- Steps that keep the window of the core, over the same blocks at home.
@@ -70,6 +70,9 @@ home_end spare old tx base h = record { whole = h.whole; window = core_end spare
 
 pub home_failed : (old : CoreState) (block : BlockNo) → PreservesHome old (fetch_failed old block)
 home_failed old block base h = record { whole = h.whole; window = core_fetch_failed base old block h.window }
+
+pub home_refused : (core : CoreState) → PreservesHome core (with_refused core)
+home_refused core base h = record { whole = h.whole; window = h.window }
 
 pub home_log_out : (old : CoreState) → IsLawful old.log
     → PreservesHome old (with_log_call old)
@@ -216,6 +219,7 @@ module _ (P : ℕ → ℕ → List ObjectBytes → List ObjectBytes → Type 0) 
         boot = boot;
         log_calls = 0;
         inst_calls = 0;
+        refused = 0;
       })
   lawful_new log inodes boot lawful fresh whole = record {
     log = lawful;
@@ -319,6 +323,14 @@ module _ (P : ℕ → ℕ → List ObjectBytes → List ObjectBytes → Type 0) 
     log = h.log;
     well_formed = well_formed_failed old block h.well_formed;
     home = (h.home.0, home_failed old block h.home.0 h.home.1);
+    planned = h.planned;
+  }
+
+  pub lawful_refused : (core : CoreState) → IsLawfulCore P core → IsLawfulCore P (with_refused core)
+  lawful_refused core h = record {
+    log = h.log;
+    well_formed = well_formed_refused core h.well_formed;
+    home = (h.home.0, home_refused core h.home.0 h.home.1);
     planned = h.planned;
   }
 

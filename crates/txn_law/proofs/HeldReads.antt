@@ -7,7 +7,7 @@ use Rattle.disk.specs.declared.block.BlockNo.{BlockNo}
 use Rattle.objects.specs.declared.addr.Addr.{Addr}
 use Rattle.objects.specs.declared.mode.Mode.{Mode}
 use Rattle.circ.specs.Log.Log.{Log, installed_place}
-use Rattle.txn_law.specs.Core.{CoreState, past, installed, ended}
+use Rattle.txn_law.specs.Core.{CoreState, with_refused, past, installed, ended}
 use Rattle.txn_law.specs.CoreWindow.{PreservesReads}
 use Rattle.txn_law.specs.Fetch.{Fetch}
 use Rattle.txn_law.specs.Fetched.{fetched, fetch_failed}
@@ -121,6 +121,9 @@ pub reads_call : (old : CoreState) (log : Log) (log_calls inst_calls t : ℕ)
 reads_call old log log_calls inst_calls t =
     preserves old (record old { log = log; log_calls = log_calls; inst_calls = inst_calls }) t (λ a reads. reads)
     (λ a c reads e. e)
+
+pub reads_refused : (core : CoreState) (t : ℕ) → PreservesReads core (with_refused core) t
+reads_refused core t = preserves core (with_refused core) t (λ a reads. reads) (λ a c reads e. e)
 
 pub reads_installed : (spare : Present → Bool) (old : CoreState) (log : Log) (t : ℕ) → PreservesReads old
     (installed spare old log) t

@@ -9,7 +9,7 @@ use Rattle.objects.specs.declared.mode.Mode.{Mode}
 use Rattle.objects.specs.declared.mode.Mode.TheVariants as modes
 use Rattle.circ.specs.Log.Log.{Log, newest, or_else, installed_place}
 use Rattle.txn_law.specs.Commit.{Planned, with_record, refreshed_content, refreshed, committed}
-use Rattle.txn_law.specs.Core.{CoreState, ended, past, installed}
+use Rattle.txn_law.specs.Core.{CoreState, with_refused, ended, past, installed}
 use Rattle.txn_law.specs.Fetch.{Fetch}
 use Rattle.txn_law.specs.Fetched.{fetched, fetch_failed}
 use Rattle.objects.specs.Present.{filled}
@@ -31,6 +31,16 @@ use Rattle.txn_law.proofs.Memory.{swept_fetches, swept_comes, swept_stays, other
 use Rattle.txn_law.proofs.Memory.{filled_memory, filled_fetches, failed_memory, failed_fetches}
 use Rattle.txn_law.proofs.Memory.{refreshed_memory, refreshed_fetches}
 use Rattle.txn_law.proofs.TakenBy.{is_hold_by, taken_with, taken_released}
+
+pub leaves_refused : (core : CoreState) (taken : ℕ → Addr → Option Hold) (fetching : BlockNo → Bool)
+    (there : BlockNo → Option Content) → Leaves core taken fetching there
+    → Leaves (with_refused core) taken fetching there
+leaves_refused core taken fetching there leaves = record {
+  holds = leaves.holds;
+  fetches = leaves.fetches;
+  comes = leaves.comes;
+  stays = leaves.stays;
+}
 
 pub leaves_end : (spare : Present → Bool) (old : CoreState) (tx : ℕ) → IsWellFormed old
     → Leaves (ended spare old tx) (but_by tx (taken_by old)) (is_fetching old) (in_memory old)

@@ -17,7 +17,7 @@ use Rattle.objects.specs.declared.addr.Addr.{Addr}
 use Rattle.objects.specs.declared.mode.Mode.{Mode}
 use Rattle.objects.specs.declared.mode.Mode.TheVariants as modes
 use Rattle.circ.specs.Log.Log.{Log, IsHomeOn, newest, newest_of, installed_place}
-use Rattle.txn_law.specs.Core.{CoreState, IsOut, without, ended, past, installed}
+use Rattle.txn_law.specs.Core.{CoreState, IsOut, with_refused, without, ended, past, installed}
 use Rattle.txn_law.specs.Fetch.{Fetch}
 use Rattle.txn_law.specs.Fetched.{fetched, fetch_failed}
 use Rattle.objects.specs.Present.{filled, without_pending}
@@ -510,7 +510,20 @@ well_formed_log old log same e well_formed = record {
   changes = subst (All IsWholeChange) (sym e) well_formed.changes;
 }
 
--- how many device calls were handed out changes nothing of it
+-- how often memory was refused changes nothing of it
+pub well_formed_refused : (core : CoreState) → IsWellFormed core → IsWellFormed (with_refused core)
+well_formed_refused core well_formed = record {
+  owned = well_formed.owned;
+  placed = well_formed.placed;
+  apart = well_formed.apart;
+  read = well_formed.read;
+  claimed = well_formed.claimed;
+  once = well_formed.once;
+  pending = well_formed.pending;
+  changes = well_formed.changes;
+}
+
+-- nor does how many device calls were handed out
 pub well_formed_call : (old : CoreState) (log : Log) (log_calls inst_calls : ℕ) → IsWellFormed (record old { log = log })
     → IsWellFormed (record old { log = log; log_calls = log_calls; inst_calls = inst_calls })
 well_formed_call old log log_calls inst_calls well_formed = record {

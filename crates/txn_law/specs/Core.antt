@@ -30,6 +30,8 @@ pub record CoreState : Type 0 where
   -- how many device calls of the log were handed out, and how many of the installer
   pub log_calls : ℕ
   pub inst_calls : ℕ
+  -- how often memory was refused to transactions
+  pub refused : ℕ
 
 -- the transaction is out
 abbrev pub IsOut : CoreState → ℕ → Type 0
@@ -46,6 +48,10 @@ with_log_call core = record core { log = with_log_out core.log; log_calls = core
 -- and the installer's
 abbrev pub with_inst_call : CoreState → CoreState
 with_inst_call core = record core { log = with_inst_out core.log; inst_calls = core.inst_calls + 1 }
+
+-- the core once memory was refused to a transaction
+abbrev pub with_refused : CoreState → CoreState
+with_refused core = record core { refused = core.refused + 1 }
 
 -- the transactions that are out once this one has ended
 abbrev pub without : ℕ → List ℕ → List ℕ

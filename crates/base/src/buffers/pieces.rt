@@ -1,5 +1,5 @@
 //! Bytes in pieces.
-ghost use Rattle.std.specs.Prelude.{◌≡◌, ◌++◌, [], flat_map, length, vec_len, vec_capacity, ◌+◌, ◌≤◌, IfOk, IsOk, OnOk, OnErr};
+ghost use Rattle.std.specs.Prelude.{◌≡◌, ◌++◌, [], flat_map, length, vec_len, vec_capacity, ◌+◌, ◌^◌, ◌<◌, ◌≤◌, IfOk, IsOk, OnOk, OnErr};
 
 use crate::buffers::SharedOctets;
 use std::alloc::{AllocError, Global};
@@ -59,16 +59,15 @@ impl Pieces {
         Pieces::one(alloc, Vec::from_slice(alloc, bytes)?)
     }
 
-    /// Puts a piece behind them. It fails where memory is refused, or there are more bytes than can be counted.
+    /// Puts a piece behind them.
     pub fn push(&mut self, part: SharedOctets) -> Result<(), AllocError>
+        requires { length self.old + length part < 2 ^ 64 }
         ensures put { OnOk result (self.new ≡ self.old ++ part) }
         ensures refused { OnErr result (self.new ≡ self.old) }
     {
-        let Some(len) = self.len.checked_add(part.as_slice().len()) else {
-            return Err(AllocError);
-        };
+        let len = part.as_slice().len();
         self.parts.push(part)?;
-        self.len = len;
+        self.len += len;
         Ok(())
     }
 

@@ -162,7 +162,7 @@ read_back base log image (Ok found) b h =
 read_back base log image (Err Range) b h = h b.range
 read_back base log image (Err Address) b h = h.1 b.homes
 read_back base log image (Err DeviceFails) b h = tt
-read_back base log image (Err NoMemory) b h = tt
+read_back base log image (Err (NoMemory error)) b h = tt
 
 pub log_read_back : (base : Image) (log : Log) (image : Image)
     (result : Result (Vec (BlockNo × Content) Global) LogFault)
@@ -175,4 +175,4 @@ log_read_back base log image (Ok logged) b h = (
 log_read_back base log image (Err Range) b h = h b.range
 log_read_back base log image (Err Address) b h = h.1 b.homes
 log_read_back base log image (Err DeviceFails) b h = tt
-log_read_back base log image (Err NoMemory) b h = tt
+log_read_back base log image (Err (NoMemory error)) b h = tt

@@ -441,5 +441,5 @@ appended Appended old new group lawful done refused d base p q s =
     (still_with_group old group) s)
 appended Full old new group lawful done refused d base p q s =
     subst (λ (log : Log). AgreesWithPending d base log p q) (sym (refused (λ e. cc))) s
-appended NoMemory old new group lawful done refused d base p q s =
+appended (NoMemory error) old new group lawful done refused d base p q s =
     subst (λ (log : Log). AgreesWithPending d base log p q) (sym (refused (λ e. cc))) s

@@ -17,7 +17,7 @@ IsReadBack log (Ok found) = ShowsLog log found.start found.logged.items
 IsReadBack log (Err Range) = ⊥
 IsReadBack log (Err Address) = ⊥
 IsReadBack log (Err DeviceFails) = Unit {0}
-IsReadBack log (Err NoMemory) = Unit {0}
+IsReadBack log (Err (NoMemory error)) = Unit {0}
 
 -- the same of the positions alone
 abbrev pub IsLogReadBack : Log → Result (Vec (BlockNo × Content) Global) LogFault → Type 0
@@ -25,4 +25,4 @@ IsLogReadBack log (Ok logged) = (start : ℕ) × ShowsLog log start logged.items
 IsLogReadBack log (Err Range) = ⊥
 IsLogReadBack log (Err Address) = ⊥
 IsLogReadBack log (Err DeviceFails) = Unit {0}
-IsLogReadBack log (Err NoMemory) = Unit {0}
+IsLogReadBack log (Err (NoMemory error)) = Unit {0}

@@ -38,7 +38,7 @@ CountsFault old new (Ok found) = new.failures ≡ old.failures
 CountsFault old new (Err DeviceFails) = new.failures ≡ old.failures + 1
 CountsFault old new (Err Range) = new.failures ≡ old.failures
 CountsFault old new (Err Address) = new.failures ≡ old.failures
-CountsFault old new (Err NoMemory) = new.failures ≡ old.failures
+CountsFault old new (Err (NoMemory error)) = new.failures ≡ old.failures
 
 -- the log of an image: its positions in order, where start and end belong together and each position has a
 -- home
@@ -48,7 +48,7 @@ IsRecovered blocks image (Ok found) = (found.start ≡ start_in image) × (found
 IsRecovered blocks image (Err Range) = IsInRange image → ⊥
 IsRecovered blocks image (Err Address) = IsInRange image × (HasHomes blocks image → ⊥)
 IsRecovered blocks image (Err DeviceFails) = Unit {0}
-IsRecovered blocks image (Err NoMemory) = Unit {0}
+IsRecovered blocks image (Err (NoMemory error)) = Unit {0}
 
 -- the same of the positions alone
 abbrev pub IsLog : ℕ → Image → Result (Vec (BlockNo × Content) Global) LogFault → Type 0
@@ -56,4 +56,4 @@ IsLog blocks image (Ok logged) = (logged.items ≡ logged_in image) × IsInRange
 IsLog blocks image (Err Range) = IsInRange image → ⊥
 IsLog blocks image (Err Address) = IsInRange image × (HasHomes blocks image → ⊥)
 IsLog blocks image (Err DeviceFails) = Unit {0}
-IsLog blocks image (Err NoMemory) = Unit {0}
+IsLog blocks image (Err (NoMemory error)) = Unit {0}

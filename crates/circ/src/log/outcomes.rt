@@ -1,5 +1,7 @@
 //! What the memory log answers.
 
+use std::alloc::AllocError;
+
 /// The place of a commit. They count from 1 at each opening.
 #[derive(Clone, Copy, Debug, PartialEq, Eq, PartialOrd, Ord)]
 pub struct Seq(pub u64);
@@ -12,7 +14,7 @@ pub enum Append {
     /// The tail and the group don't fit in the slots of the log.
     Full,
     /// There was no memory for it.
-    NoMemory,
+    NoMemory(AllocError),
 }
 
 /// Whether there is room for a group.

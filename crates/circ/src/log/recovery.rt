@@ -1,6 +1,7 @@
 //! What an opening answers of a log.
 
 use disk::{Block, BlockNo};
+use std::alloc::AllocError;
 use thiserror::Error;
 
 /// The log as an opening finds it.
@@ -21,6 +22,7 @@ pub enum LogFault {
     Address,
     #[error("the device failed")]
     Device,
+    /// It bears the refusal.
     #[error("out of memory")]
-    NoMemory,
+    NoMemory(AllocError),
 }

@@ -29,7 +29,7 @@ module _ (before : Device) (tree : Tree) (boot : ℕ) (good : IsGoodImage before
   pub super_refused : (keeps_model : Type 0) (cause : OpenFault) (later : Device) → keeps_model → IsCertain before
       → IsRefusedFor keeps_model cause before later → IsShown tree boot (Err cause)
   super_refused keeps_model fault.Device later is_preserved clean shows = tt
-  super_refused keeps_model fault.NoMemory later is_preserved clean shows = tt
+  super_refused keeps_model (fault.NoMemory error) later is_preserved clean shows = tt
   super_refused keeps_model fault.Magic later is_preserved clean shows = elim (shows.1 is_preserved clean) [
     | inl none ↦ has_blocks before.size (image_of before SUPER_BLOCK) good.super good.is_super good.size_is none
     | inr other ↦ not_magic (image_of before SUPER_BLOCK) good.super good.is_super other
@@ -53,7 +53,7 @@ module _ (before : Device) (tree : Tree) (boot : ℕ) (good : IsGoodImage before
       (subst (λ (size : ℕ). HasHomes size (image_of later)) (sym reads.size)
       (subst (HasHomes before.size) (sym (same_image later reads)) good.homes))
   log_refused later reads fault.Device none = tt
-  log_refused later reads fault.NoMemory none = tt
+  log_refused later reads (fault.NoMemory error) none = tt
   log_refused later reads fault.Magic none = none
   log_refused later reads fault.Version none = none
   log_refused later reads fault.Range none = absurd none

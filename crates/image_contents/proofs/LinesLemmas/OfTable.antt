@@ -28,7 +28,7 @@ module _ (content : Image) (table : List (Option Inode)) where
 pub for_cause : (tree : Tree) (cause : PartFault) → (cause ≡ part.Range → ⊥) → AreLines tree (Err cause)
 for_cause tree part.Range not = not refl
 for_cause tree part.Device not = tt
-for_cause tree part.NoMemory not = tt
+for_cause tree (part.NoMemory error) not = tt
 
 -- or its lines are those of the tree
 pub as_lines : (tree : Tree) (result : Result (Vec Line Global) PartFault) (lines : List Line)
@@ -37,4 +37,4 @@ pub as_lines : (tree : Tree) (result : Result (Vec Line Global) PartFault) (line
 as_lines tree (Ok found) lines are same not = are ∙ same
 as_lines tree (Err part.Range) lines are same not = not refl
 as_lines tree (Err part.Device) lines are same not = tt
-as_lines tree (Err part.NoMemory) lines are same not = tt
+as_lines tree (Err (part.NoMemory error)) lines are same not = tt

@@ -55,7 +55,7 @@ abbrev pub IsShown : Tree → ℕ → Result (Vec Line Global) OpenFault → Typ
 IsShown tree boot (Ok lines) = lines.items ≡ lines_of tree
 IsShown tree boot (Err fault.Range) = 2 ^ 64 ≤ boot + 1
 IsShown tree boot (Err fault.Device) = ⊤
-IsShown tree boot (Err fault.NoMemory) = ⊤
+IsShown tree boot (Err (fault.NoMemory error)) = ⊤
 IsShown tree boot (Err fault.Magic) = ⊥
 IsShown tree boot (Err fault.Version) = ⊥
 IsShown tree boot (Err fault.Log) = ⊥
@@ -65,14 +65,14 @@ abbrev pub AreLines : Tree → Result (Vec Line Global) PartFault → Type 0
 AreLines tree (Ok lines) = lines.items ≡ lines_of tree
 AreLines tree (Err part.Range) = ⊥
 AreLines tree (Err part.Device) = ⊤
-AreLines tree (Err part.NoMemory) = ⊤
+AreLines tree (Err (part.NoMemory error)) = ⊤
 
 -- what the log of an image of so many blocks lays over it
 abbrev pub IsOverlay : ℕ → Image → Result (List (BlockNo × Content)) OpenFault → Type 0
 IsOverlay size image (Ok logged) = logged ≡ logged_in image
 IsOverlay size image (Err fault.Log) = IsInRange image → HasHomes size image → ⊥
 IsOverlay size image (Err fault.Device) = ⊤
-IsOverlay size image (Err fault.NoMemory) = ⊤
+IsOverlay size image (Err (fault.NoMemory error)) = ⊤
 IsOverlay size image (Err fault.Magic) = ⊥
 IsOverlay size image (Err fault.Version) = ⊥
 IsOverlay size image (Err fault.Range) = ⊥

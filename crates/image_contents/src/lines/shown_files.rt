@@ -34,16 +34,14 @@ pub fn show<D: CrashDisk>(alloc: Global, disk: &mut D) -> Result<Vec<Line>, Open
         → IsGoodImage (D.device disk.old).size (image_of (D.device disk.old)) tree boot
         → IsShown tree boot result }
 {
-    let Ok(mut block) = Block::zeros(alloc) else {
-        return Err(OpenFault::NoMemory);
-    };
+    let mut block = Block::zeros(alloc)?;
     let found = read_super(disk, &mut block)?;
     let overlay = read_overlay(alloc, disk)?;
     match all_lines(alloc, disk, &overlay, &found.geometry) {
         Ok(lines) => Ok(lines),
         Err(PartFault::Range) => Err(OpenFault::Range),
         Err(PartFault::Device) => Err(OpenFault::Device),
-        Err(PartFault::NoMemory) => Err(OpenFault::NoMemory),
+        Err(PartFault::NoMemory(error)) => Err(OpenFault::NoMemory(error)),
     }
 }
 
@@ -62,7 +60,7 @@ fn read_overlay<D: CrashDisk>(alloc: Global, disk: &mut D) -> Result<Overlay, Op
         Ok(logged) => Ok(Overlay::new(logged)),
         Err(LogFault::Range | LogFault::Address) => Err(OpenFault::Log),
         Err(LogFault::Device) => Err(OpenFault::Device),
-        Err(LogFault::NoMemory) => Err(OpenFault::NoMemory),
+        Err(LogFault::NoMemory(error)) => Err(OpenFault::NoMemory(error)),
     }
 }
 

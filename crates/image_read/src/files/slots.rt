@@ -1,5 +1,5 @@
 //! The slots of directories.
-ghost use Rattle.std.specs.Prelude.{◌≡◌, ◌*◌, ◌⊎◌, ◌≤◌, ℕ, length, take, nat_eq, true, IfErr, IfOk, IsErrOf, IsOk, OnOk};
+ghost use Rattle.std.specs.Prelude.{◌≡◌, ◌*◌, ◌⊎◌, ◌≤◌, ℕ, alloc_error, length, take, nat_eq, true, IfErr, IfOk, IsErrOf, IsOk, OnOk};
 ghost use Rattle.std.specs.List.{list_all};
 ghost use Rattle.base.specs.declared.TheConstants.{BLOCK_BYTES, FIRST_DOUBLE_INDEX, SLOTS_PER_BLOCK};
 ghost use Rattle.layout.specs.Decode.{bytes_of, span_of};
@@ -127,7 +127,7 @@ fn push_slots(
 ) -> Result<(), PartFault>
     requires { length block.now ≡ BLOCK_BYTES }
     ensures pushed { OnOk result (ArePushed inodes block.now SLOTS_PER_BLOCK slots.old.items slots.new.items) }
-    ensures refused { IfErr result (λ fault. (fault ≡ PartFault.NoMemory)
+    ensures refused { IfErr result (λ fault. (fault ≡ PartFault.NoMemory alloc_error)
         ⊎ ((fault ≡ PartFault.Range) × (AreSlots inodes block.now SLOTS_PER_BLOCK → ⊥))) }
 {
     'places: for index_within in 0..SLOTS_PER_BLOCK {
@@ -145,7 +145,7 @@ fn push_slot(
 ) -> Result<(), PartFault>
     requires { length bytes.now ≡ SLOT_BYTES }
     ensures pushed { OnOk result (IsPushed inodes bytes.now slots.old.items slots.new.items) }
-    ensures refused { IfErr result (λ fault. (fault ≡ PartFault.NoMemory)
+    ensures refused { IfErr result (λ fault. (fault ≡ PartFault.NoMemory alloc_error)
         ⊎ ((fault ≡ PartFault.Range) × (IsOk (read_slot inodes bytes.now) → ⊥))) }
 {
     let Some(slot) = Slot::read(alloc, inodes, bytes)?? else {

@@ -7,9 +7,9 @@ use thiserror::Error;
 /// What is wrong with a part of an image, or why it couldn't be read.
 #[derive(Clone, Copy, Debug, PartialEq, Eq, Error)]
 pub enum PartFault {
-    /// An allocation failed.
+    /// An allocation failed: it bears the refusal.
     #[error("no memory")]
-    NoMemory,
+    NoMemory(AllocError),
     /// A call of the device failed.
     #[error("the device failed")]
     Device,
@@ -19,13 +19,13 @@ pub enum PartFault {
 }
 
 impl From<AllocError> for PartFault {
-    ghost use Rattle.std.specs.Prelude.{◌≡◌};
+    ghost use Rattle.std.specs.Prelude.{◌≡◌, alloc_error};
     ghost use Rattle.image_read.specs.declared.parts.fault.PartFault.TheVariants.{NoMemory};
 
-    ghost from_gives = { λ _ fault. fault ≡ NoMemory };
+    ghost from_gives = { λ _ fault. fault ≡ NoMemory alloc_error };
 
-    fn from(_: AllocError) -> PartFault {
-        PartFault::NoMemory
+    fn from(error: AllocError) -> PartFault {
+        PartFault::NoMemory(error)
     }
 }
 

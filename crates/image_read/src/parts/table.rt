@@ -1,5 +1,5 @@
 //! The table of inodes.
-ghost use Rattle.std.specs.Prelude.{◌≡◌, ◌≤◌, ◌<◌, ◌⊎◌, ℕ, IfOk, IfErr, OnOk, IsErrOf, length};
+ghost use Rattle.std.specs.Prelude.{◌≡◌, ◌≤◌, ◌<◌, ◌⊎◌, ℕ, alloc_error, IfOk, IfErr, OnOk, IsErrOf, length};
 ghost use Rattle.base.specs.declared.TheConstants.{BLOCK_BYTES, INODES_PER_BLOCK};
 ghost use Rattle.circ.specs.Log.Recovery.{HasOnlyRead, IsCertain, image_of};
 ghost use Rattle.image_read.specs.LoggedImage.WithOverlay.{with_overlay};
@@ -50,7 +50,7 @@ fn push_inodes(
 ) -> Result<(), PartFault>
     requires { length block.now ≡ BLOCK_BYTES }
     ensures pushed { OnOk result (ArePushed geometry.now block.now INODES_PER_BLOCK table.old.items table.new.items) }
-    ensures refused { IfErr result (λ fault. (fault ≡ PartFault.NoMemory)
+    ensures refused { IfErr result (λ fault. (fault ≡ PartFault.NoMemory alloc_error)
         ⊎ ((fault ≡ PartFault.Range) × HasRefusedInodeIn geometry.now block.now)) }
 {
     'slots: for slot in 0..INODES_PER_BLOCK as usize {

@@ -40,4 +40,4 @@ stops_before seen there after (suspend.Claim block) may = (
   subst (λ (g : Geometry). is_data g block.0 ≡ true) after.geometry may.1,
 )
 stops_before seen there after suspend.Io may = tt
-stops_before seen there after suspend.NoMemory may = tt
+stops_before seen there after (suspend.NoMemory error) may = tt

@@ -130,7 +130,7 @@ impl<'a> WriteSet<'a> {
         reserve_next(&mut self.there)?;
         match self.written.push(object) {
             Ok(()) => {}
-            Err(_) => return Err(Suspend::NoMemory),
+            Err(failed) => return Err(Suspend::NoMemory(AllocError::from(failed))),
         }
         upsert_there(&mut self.there, copy);
         Ok(())

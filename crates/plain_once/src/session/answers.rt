@@ -72,13 +72,16 @@ pub fn answer_record(
 {
     are_bytes(message.as_slice());
     match judge(alloc, message) {
-        Judged::Closed => Ok(None),
-        Judged::Refused { xid, refusal } => Ok(Some(refused(alloc, xid, refusal)?)),
-        Judged::Call {
-            xid,
-            credential,
-            call,
-        } => Ok(Some(answer_call(alloc, files, xid, credential, &call)?)),
+        Err(lacking) => Ok(Some(refused(alloc, lacking.xid, Refusal::SystemError)?)),
+        Ok(Judged::Closed) => Ok(None),
+        Ok(Judged::Refused { xid, refusal }) => Ok(Some(refused(alloc, xid, refusal)?)),
+        Ok(
+            Judged::Call {
+                xid,
+                credential,
+                call,
+            },
+        ) => Ok(Some(answer_call(alloc, files, xid, credential, &call)?)),
     }
 }
 
@@ -117,7 +120,8 @@ fn tell(alloc: Global, xid: u32, reply: &ProgramReply) -> Result<Vec<u8>, AllocE
     match reply_bytes(alloc, xid, response(reply)) {
         Ok(record) => Ok(record),
         Err(XdrFault::Length) => refused(alloc, xid, Refusal::SystemError),
-        Err(_) => Err(AllocError),
+        Err(XdrFault::NoMemory(error)) => Err(error),
+        Err(_) => unreachable!(),
     }
 }
 
@@ -132,12 +136,14 @@ fn response(reply: &ProgramReply) -> RpcReply<'_>
 }
 
 // The record that refuses a call. It is short, so what fails is an allocation.
+#[tactic(auto, using(session_wire::proofs::ShortRefusals::not_long_refusal))]
 fn refused(alloc: Global, xid: u32, refusal: Refusal) -> Result<Vec<u8>, AllocError>
     ensures { IfOk result (λ whole. whole.items ≡ refusal_record xid refusal) }
 {
     match reply_bytes(alloc, xid, RpcReply::Refused(refusal)) {
         Ok(record) => Ok(record),
-        Err(_) => Err(AllocError),
+        Err(XdrFault::NoMemory(error)) => Err(error),
+        Err(_) => unreachable!(),
     }
 }
 

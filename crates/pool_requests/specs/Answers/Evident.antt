@@ -42,10 +42,10 @@ pub record IsOwn (sent : Sent) (done : Outcome) : Type 0 where
 abbrev pub IsShownStable : Sent → Given Outcome → Option ℕ → Type 0
 IsShownStable sent given stable = is_answered_stable sent.job.call ≡ true → stable ≡ Some given.place.0
 
--- One of the three in the place of a reply: a system error for want of memory, IO, or SERVERFAULT.
+-- IO or SERVERFAULT, in the place of a reply.
 abbrev pub IsSubstitute : Call → ReplyBody → Type 0
-IsSubstitute call response = (response ≡ body.Refused SystemError)
-    ⊎ ((response ≡ with_reply (refused status.Io call)) ⊎ (response ≡ with_reply (refused status.ServerFault call)))
+IsSubstitute call response = (response ≡ with_reply (refused status.Io call))
+    ⊎ (response ≡ with_reply (refused status.ServerFault call))
 
 -- it bears the key and the numbers of the job
 pub record Bears (answer : Answered) (job : Job) : Type 0 where
@@ -59,7 +59,7 @@ pub record IsImmediate (answer : Answered) (replied : Replied) : Type 0 where
   pub number_is : answer.number ≡ replied.number
   pub xid_is : answer.xid ≡ replied.xid
   pub body_is : answer.body ≡ replied.body
-  pub replies : IsReplyTo replied.message replied.xid replied.body
+  pub replies : IsReplyTo replied.message replied.xid replied.body replied.lacked
 
 -- it is the reply of the job's own procedure, which was committed
 pub record IsCommitted (answer : Answered) (sent : Sent) (given : Given Outcome) (stable : Option ℕ) : Type 0 where
@@ -74,6 +74,7 @@ abbrev pub RestsOn : Answered → Evidence → Type 0
 RestsOn answer (evidence.Immediate replied) = IsImmediate answer replied.value
 RestsOn answer (evidence.Committed sent given stable) = IsCommitted answer sent given stable
 RestsOn answer (evidence.Substitute sent) = Bears answer sent.job × IsSubstitute sent.job.call answer.body
+RestsOn answer (evidence.Lacking sent error) = Bears answer sent.job × (answer.body ≡ body.Refused SystemError)
 RestsOn answer (evidence.Nothing sent) = Bears answer sent.job × (begins_transaction sent.job.call ≡ false)
     × (answer.body ≡ with_reply Null)
 

@@ -6,8 +6,9 @@ use crate::answers::Evidence;
 use crate::jobs::{Immediate, ReplyAddress};
 use nfs_types::{ProgramReply, Reply};
 use procs::CommitWitness;
+use rpc::Refusal;
 use session_wire::{ReplyBody, RpcReply, append_reply};
-use std::alloc::Global;
+use std::alloc::{AllocError, Global};
 use std::marker::{Model, PhantomData};
 use std::snapshot::Snapshot;
 use std::sync::ledger::{Ledger, Share};
@@ -16,8 +17,8 @@ use xdr::XdrFault;
 
 /// An answer to a record of a connection. Its type keeps that it bears the key and the numbers of what it answers, and
 /// that this may be answered so: with the reply to a record that begins no transaction; with the reply of the job's own
-/// procedure, which was committed, and whose place was settled where the reply has to be stable; or with one of the
-/// three in its place. It is made of evidence alone, each piece of which is used up for it. Its type names the ledger of
+/// procedure, which was committed, and whose place was settled where the reply has to be stable; with IO or SERVERFAULT
+/// in its place; or with a system error, made of a refusal of memory. It is made of evidence alone, each piece of which is used up for it. Its type names the ledger of
 /// the commits that it may rest on: that of one core.
 #[derive(Drop)]
 pub struct Answer<L: Ledger> {
@@ -59,7 +60,9 @@ impl<L: Ledger> Answer<L> {
     ghost use Rattle.pool_requests.specs.Answers.Evident.{with_reply};
     ghost use Rattle.pool_requests.specs.Answers.Written.{spelled};
     ghost use Rattle.pool_requests.specs.declared.answers.evidence.Evidence.TheVariants as evidence;
+    ghost use Rattle.rpc.specs.declared.refusal.Refusal.TheVariants.{SystemError};
     ghost use Rattle.session_wire.specs.Replies.{IsTooLong};
+    ghost use Rattle.session_wire.specs.declared.message.ReplyBody.TheVariants as body;
     ghost use Rattle.xdr.specs.declared.fault.XdrFault.TheVariants.{Length, NoMemory};
 
     /// The reply to a record that begins no transaction.
@@ -108,7 +111,7 @@ impl<L: Ledger> Answer<L> {
         }
     }
 
-    /// One of the three in the place of a reply. Who makes it has a share of the ledger of commits, as above.
+    /// IO or SERVERFAULT in the place of a reply. Who makes it has a share of the ledger of commits, as above.
     pub fn substitute(reply_address: ReplyAddress, body: ReplyBody, share: &Share<L>) -> Answer<L>
         requires { IsSubstitute reply_address.job.call body }
         ensures { result ≡ answer_to reply_address.job body (evidence.Substitute reply_address) }
@@ -121,6 +124,22 @@ impl<L: Ledger> Answer<L> {
             xid: reply_address.xid(),
             body,
             evidence: Evidence::Substitute(reply_address),
+            of: PhantomData,
+        }
+    }
+
+    /// A system error, as memory was refused to the job. Who makes it has a share of the ledger of commits, as above.
+    pub fn lacking(reply_address: ReplyAddress, error: AllocError, share: &Share<L>) -> Answer<L>
+        ensures { result ≡ answer_to reply_address.job (body.Refused SystemError) (evidence.Lacking reply_address error) }
+    {
+        let _ = share;
+        let (key, number) = reply_address.goes_to();
+        Answer {
+            key,
+            number,
+            xid: reply_address.xid(),
+            body: ReplyBody::Refused(Refusal::SystemError),
+            evidence: Evidence::Lacking(reply_address, error),
             of: PhantomData,
         }
     }

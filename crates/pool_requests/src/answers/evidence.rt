@@ -2,6 +2,7 @@
 
 use crate::jobs::{Immediate, ReplyAddress};
 use procs::CommitWitness;
+use std::alloc::AllocError;
 use std::snapshot::Snapshot;
 use txn::Stable;
 
@@ -12,8 +13,10 @@ pub enum Evidence {
     Immediate(Snapshot<Immediate>),
     /// The job's procedure was committed; and where its reply has to be stable, its place is settled.
     Committed(ReplyAddress, CommitWitness, Option<Stable>),
-    /// The job is answered one of the three in the place of its reply.
+    /// The job is answered IO or SERVERFAULT in the place of its reply.
     Substitute(ReplyAddress),
+    /// Memory was refused to the job: this is the refusal.
+    Lacking(ReplyAddress, AllocError),
     /// The job's call begins no transaction.
     Nothing(ReplyAddress),
 }

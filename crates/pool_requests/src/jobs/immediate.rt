@@ -2,17 +2,19 @@
 
 use bytes::Bytes;
 use session_wire::ReplyBody;
+use std::alloc::AllocError;
 use std::marker::Model;
 use std::snapshot::Snapshot;
 
 /// The reply to a record of the connection of this key and number that begins no transaction. Only `Stream::next` makes
-/// one. Its type keeps that it is what the record is answered.
+/// one. Its type keeps that it is what the record is answered, a system error only with a refusal of memory.
 #[derive(Drop)]
 pub struct Immediate {
     pub(crate) key: usize,
     pub(crate) number: u64,
     pub(crate) xid: u32,
     pub(crate) body: ReplyBody,
+    pub(crate) lacked: Option<AllocError>,
     pub(crate) message: Snapshot<Bytes>,
 }
 
@@ -26,10 +28,11 @@ impl Model for Immediate {
       number = r.number;
       xid = r.xid;
       body = r.body;
+      lacked = r.lacked;
       message = r.message.value;
     } };
 
-    ghost invariant = { λ r. IsReplyTo r.message.value r.xid r.body };
+    ghost invariant = { λ r. IsReplyTo r.message.value r.xid r.body r.lacked };
 }
 
 impl Immediate {
@@ -38,7 +41,7 @@ impl Immediate {
 
     /// It is what its record is answered.
     pub fn replies(&self)
-        ensures { IsReplyTo self.now.message self.now.xid self.now.body }
+        ensures { IsReplyTo self.now.message self.now.xid self.now.body self.now.lacked }
     {
         let _ = &self.body;
     }

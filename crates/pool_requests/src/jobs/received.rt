@@ -2,16 +2,16 @@
 ghost use Rattle.std.specs.Prelude.{◌≡◌, ◌⊎◌, ◌<◌, ℕ, get_or};
 ghost use Rattle.nfs_spec.specs.Model.Mount.{mount_reply};
 ghost use Rattle.nfs_types.specs.declared.program.ProgramReply.TheVariants as program_replies;
+ghost use Rattle.pool_requests.specs.Jobs.Immediate.{IsLacking};
 ghost use Rattle.pool_requests.specs.Jobs.Received.{IsReceived};
-ghost use Rattle.rpc.specs.declared.refusal.Refusal.TheVariants.{SystemError};
 ghost use Rattle.session_wire.specs.declared.message.ReplyBody.TheVariants as body;
 
 use crate::jobs::{Immediate, Job};
 use bytes::Bytes;
 use nfs_types::{MountCall, ProgramCall, ProgramReply, Reply};
 use rpc::Refusal;
-use session_wire::{Judged, ReplyBody, judge, mount_reply};
-use std::alloc::Global;
+use session_wire::{Judged, Lacking, ReplyBody, judge, mount_reply};
+use std::alloc::{AllocError, Global};
 use std::snapshot::Snapshot;
 
 /// What a record is received as.
@@ -26,32 +26,47 @@ pub enum Received {
 }
 
 /// Receives a message, a whole record of the connection of this key and number.
-#[tactic(auto, using(crate::proofs::JobsLemmas::Judgements::closed, crate::proofs::JobsLemmas::Judgements::refused, crate::proofs::JobsLemmas::Judgements::called))]
+#[tactic(auto, using(crate::proofs::JobsLemmas::Judgements::refused, crate::proofs::JobsLemmas::Judgements::lacks))]
 pub(crate) fn receive(alloc: Global, key: usize, number: u64, message: &Bytes) -> Received
     ensures { IsReceived key number message.now result }
 {
     are_bytes(message);
     match judge(alloc, message) {
-        Judged::Closed => Received::Closed,
-        Judged::Refused { xid, refusal } => Received::Answered(Immediate {
+        Err(Lacking { xid, error }) => Received::Answered(Immediate {
+            key,
+            number,
+            xid,
+            body: ReplyBody::Refused(Refusal::SystemError),
+            lacked: Some(error),
+            message: Snapshot::of(message),
+        }),
+        Ok(Judged::Closed) => Received::Closed,
+        Ok(Judged::Refused { xid, refusal }) => Received::Answered(Immediate {
             key,
             number,
             xid,
             body: ReplyBody::Refused(refusal),
+            lacked: None,
             message: Snapshot::of(message),
         }),
-        Judged::Call {
-            xid,
-            credential,
-            call,
-        } => match call {
-            ProgramCall::Mount(call) => Received::Answered(Immediate {
-                key,
-                number,
+        Ok(
+            Judged::Call {
                 xid,
-                body: mounted(alloc, &call),
-                message: Snapshot::of(message),
-            }),
+                credential,
+                call,
+            },
+        ) => match call {
+            ProgramCall::Mount(call) => {
+                let (body, lacked) = mounted(alloc, &call);
+                Received::Answered(Immediate {
+                    key,
+                    number,
+                    xid,
+                    body,
+                    lacked,
+                    message: Snapshot::of(message),
+                })
+            }
             ProgramCall::Nfs(call) => {
                 if !call.facts().begins_transaction {
                     return Received::Answered(Immediate {
@@ -59,6 +74,7 @@ pub(crate) fn receive(alloc: Global, key: usize, number: u64, message: &Bytes) -
                         number,
                         xid,
                         body: ReplyBody::Done(ProgramReply::Nfs(Reply::Null)),
+                        lacked: None,
                         message: Snapshot::of(message),
                     });
                 }
@@ -80,13 +96,12 @@ fn are_bytes(message: &[u8])
     ensures { (index : ℕ) → get_or message.now index 0 < 256 }
 {}
 
-// What a call of MOUNT is answered.
-fn mounted(alloc: Global, call: &MountCall) -> ReplyBody
-    ensures { (result ≡ body.Done (program_replies.Mount (mount_reply call.now)))
-        ⊎ (result ≡ body.Refused SystemError) }
+// What a call of MOUNT is answered, and the refusal where memory is refused to it.
+fn mounted(alloc: Global, call: &MountCall) -> (ReplyBody, Option<AllocError>)
+    ensures { (result.0 ≡ body.Done (program_replies.Mount (mount_reply call.now))) ⊎ IsLacking result.0 result.1 }
 {
     match mount_reply(alloc, call) {
-        Ok(reply) => ReplyBody::Done(ProgramReply::Mount(reply)),
-        Err(_) => ReplyBody::Refused(Refusal::SystemError),
+        Ok(reply) => (ReplyBody::Done(ProgramReply::Mount(reply)), None),
+        Err(error) => (ReplyBody::Refused(Refusal::SystemError), Some(error)),
     }
 }

@@ -84,7 +84,7 @@ pub call_agrees : (o : Setting) (run_state : RunState) (number : ℕ) (credentia
 call_agrees o run_state number credential moment call ctx store old new None takes is = is
 call_agrees o run_state number credential moment call ctx store old new (Some made) takes is =
     subst (λ (one : Step). IsRunState o (state_after run_state (event.Call number credential moment call) (Some one)) store)
-    (sym takes.0) (record { log = is.log; begun = is.begun })
+    (sym takes.0) (record { log = is.log; begun = is.begun; refused = is.refused })
 
 pub call_fetches : (ctx : Ctx) (call : Call) (old new : State) (made : Option Step)
     → TakesCall ctx call old made new → fetches_of new ≡ fetches_of old

@@ -87,7 +87,7 @@ module _ (old new : WorkerAndCore) where
   wanted_none addr mode (want.Busy back) = off_none (lock_request.Object addr mode)
   wanted_none addr mode (want.Loading back) = off_none (lock_request.Object addr mode)
   wanted_none addr mode (want.Outside back) = refl
-  wanted_none addr mode (want.NoMemory back) = refl
+  wanted_none addr mode (want.NoMemory back error) = refl
 
   claimed_none : (block : BlockNo) (answer : Claim)
       → fetches_in (phase_claimed block answer old.worker.known) (begun_claimed answer).io ≡ []
@@ -95,7 +95,7 @@ module _ (old new : WorkerAndCore) where
   claimed_none block (claim.Busy back) = off_none (lock_request.Claim block)
   claimed_none block (claim.Loading back) = off_none (lock_request.Claim block)
   claimed_none block (claim.Outside back) = refl
-  claimed_none block (claim.NoMemory back) = refl
+  claimed_none block (claim.NoMemory back error) = refl
 
   placed_none : (job : Job) (reply : Reply) (place : Seq) (base : State) (stable : Bool)
       → fetches_of (with_entry job reply (answered_or_waiting stable job reply place base)) ≡ []
@@ -108,7 +108,7 @@ module _ (old new : WorkerAndCore) where
       placed_none job reply receipt.place base (is_answered_stable job.call)
   committed_none job reply base (commit.Full back change) = refl
   committed_none job reply base (commit.Foreign back change) = refl
-  committed_none job reply base (commit.NoMemory back change) = refl
+  committed_none job reply base (commit.NoMemory back change error) = refl
   committed_none job reply base (commit.Broken back change) = refl
   committed_none job reply base (commit.Spent back change) = refl
 
@@ -208,7 +208,7 @@ module _ (old new : WorkerAndCore) (boot number : ℕ) (entries : List Committed
       absurd (true≢false (sym has))
   place_taken job tx done base (commit.Foreign back change) next job_is took is stands has =
       absurd (true≢false (sym has))
-  place_taken job tx done base (commit.NoMemory back change) next job_is took is stands has =
+  place_taken job tx done base (commit.NoMemory back change error) next job_is took is stands has =
       absurd (true≢false (sym has))
   place_taken job tx done base (commit.Broken back change) next job_is took is stands has =
       absurd (true≢false (sym has))

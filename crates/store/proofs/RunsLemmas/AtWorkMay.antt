@@ -1,5 +1,5 @@
 -- Each step of a worker is one that may be made.
-use Rattle.std.proofs.Common.{◌≡◌, ◌≢◌, ◌∙◌, ◌↔◌, refl, sym, ap, subst, true≢false, ℕ, ◌+◌, ◌^◌, ◌≤◌, arith, Bool}
+use Rattle.std.proofs.Common.{◌≡◌, ◌≢◌, ◌∙◌, ◌↔◌, refl, sym, ap, subst, true≢false, ℕ, ◌+◌, ◌^◌, ◌≤◌, arith, Bool, alloc_error}
 use Rattle.std.proofs.Common.{true, false, ◌&&◌, ◌||◌, nat_eq, nat_le, IsTrue, Option, Some, None, List, [], ◌∷◌}
 use Rattle.std.proofs.Common.{◌<◌, ◌⊎◌, inl, inr, length, map, All, IfSome}
 use Rattle.std.proofs.Common.{Ok, Err}
@@ -84,7 +84,8 @@ use Rattle.store_workers.specs.Stages.{at_stage, begun_of}
 use Rattle.store_workers.specs.Stages.{progress_in, progress_of}
 use Rattle.store_workers.specs.WorkerAnswers.{claim_answer, committing_of, want_answer}
 use Rattle.store_workers.specs.WorkerSteps.{GoesOn, HasClaimed, HasCommitted, HasLacked, HasWanted, IsNext}
-use Rattle.store_workers.specs.WorkerSteps.{IsNoBeginning, WorkerAndCore}
+use Rattle.store_workers.specs.WorkerSteps.{WorkerAndCore}
+use Rattle.txn.specs.Outcomes.{IsNoBeginning}
 use Rattle.store_workers.specs.WorkerSteps.{given_step, planned_of, worker_and_core}
 use Rattle.store_workers.specs.declared.workers.parts.Job.{Job}
 use Rattle.store_workers.specs.declared.workers.parts.Phase.{Phase}
@@ -123,7 +124,7 @@ module _ (run_state : RunState) (worker : ℕ) (core : CoreState) (tx : ℕ) (kn
       → IsCaused run_state worker (Some (step.Wanted addr mode (want_answer answer)))
       → IsLockAnswer run_state worker (begun_of found seen knowing) (schedule.range_request_at addr mode) (want_answer answer)
   want_may addr mode home found seen new (want.Held back bytes) is caused = caused
-  want_may addr mode home found seen new (want.NoMemory back) is caused = caused
+  want_may addr mode home found seen new (want.NoMemory back error) is caused = caused
   want_may addr mode home found seen new (want.Busy back) is caused = caused
   want_may addr mode home found seen new (want.Loading back) is caused = caused
   want_may addr mode home found seen new (want.Outside back) is caused =
@@ -136,7 +137,7 @@ module _ (run_state : RunState) (worker : ℕ) (core : CoreState) (tx : ℕ) (kn
       → IsCaused run_state worker (Some (step.Claimed block (claim_answer answer)))
       → IsClaimAnswer run_state worker begun block (claim_answer answer)
   claim_may block addr home begun new (claim.Held back) is caused = caused
-  claim_may block addr home begun new (claim.NoMemory back) is caused = caused
+  claim_may block addr home begun new (claim.NoMemory back error) is caused = caused
   claim_may block addr home begun new (claim.Busy back) is caused = caused
   claim_may block addr home begun new (claim.Loading back) is caused = caused
   claim_may block addr home begun new (claim.Outside back) is caused =
@@ -226,7 +227,7 @@ module _ (o : Setting) (base : Image) (store : StoreState) (fetches : List Fetch
   by_answer run_state worker change (commit.Full back same) new is caused =
       (is.1.sound, numbers.1 is.1.log_space.0, let fits = is.1.log_space.1 in omega (arith, held, fits))
   by_answer run_state worker change (commit.Foreign back same) new is caused = absurd caused
-  by_answer run_state worker change (commit.NoMemory back same) new is caused =
+  by_answer run_state worker change (commit.NoMemory back same error) new is caused =
       (is.1.sound, numbers.1 is.1.log_space.0, let fits = is.1.log_space.1 in omega (arith, held, fits))
   by_answer run_state worker change (commit.Broken back same) new is caused = is.1
   by_answer run_state worker change (commit.Spent back same) new is caused = (is.1.sound, λ has. is.1.log_space (numbers.0 has))
@@ -317,7 +318,7 @@ module _ (o : Setting) (run_state : RunState) (number : ℕ) (base : Image) (sto
     broken_is ∙ none.0,
     subst (λ (n : ℕ). 2 ^ 64 ≤ n + 1) (sym state_agrees.begun) (let spent = none.1 in omega (arith, spent)),
   )
-  not_begun_may fault.NoMemory none = (
+  not_begun_may (fault.NoMemory error) none = (
     broken_is ∙ none.0,
     subst (λ (n : ℕ). n + 1 < 2 ^ 64) (sym state_agrees.begun) none.1,
   )
@@ -424,15 +425,15 @@ module _ (o : Setting) (run_state : RunState) (number : ℕ) (base : Image) (sto
 
   lacked_so : (tx : ℕ) (made : Step) → worker.begun.tx ≡ Some tx → worker.known.left ≡ []
       → HasLacked tx old made new
-      → May Planning (Some (step.Ended ending.NoMemory))
+      → May Planning (Some (step.Ended (ending.NoMemory alloc_error)))
   lacked_so tx made tx_is none has at plans loads stands caused = by worker.work.job plans
     where
       by : (job : Option Job) → IsSomeAnd job (λ job. IsSomeAnd worker.begun.tx (λ t.
           IsSomeAnd (seen_in worker.work.planner) (λ seen. HasOfCall t store.core seen)))
-          → MayFrom (at_stage job (how.Planning all_begun)) (Some (step.Ended ending.NoMemory))
+          → MayFrom (at_stage job (how.Planning all_begun)) (Some (step.Ended (ending.NoMemory alloc_error)))
       by None plans = absurd plans
       by (Some job) plans = subst (λ (left : List LockRequest). IsStepRetakingFirst left o run_state number all_begun
-          (step.Ended ending.NoMemory)) (sym none) tt
+          (step.Ended (ending.NoMemory alloc_error))) (sym none) tt
 
   -- its read is due, or made
   reading_so : RunsIn boot worker × IsFetchOf worker
@@ -527,17 +528,17 @@ module _ (run_state : RunState) (number : ℕ) (idle : (other : ℕ) → other �
   not_caused (Some (step.Wanted addr mode lock_answer.Fetch)) off =
       (left_free (schedule.range_request_at addr mode), λ other differs. ap (has_loaded addr.block) (idle other differs))
   not_caused (Some (step.Wanted addr mode lock_answer.Outside)) off = tt
-  not_caused (Some (step.Wanted addr mode lock_answer.NoMemory)) off = left_free (schedule.range_request_at addr mode)
+  not_caused (Some (step.Wanted addr mode (lock_answer.NoMemory error))) off = left_free (schedule.range_request_at addr mode)
   not_caused (Some (step.Claimed block lock_answer.Busy)) off = absurd (true≢false off)
   not_caused (Some (step.Claimed block lock_answer.Loading)) off = absurd (true≢false off)
   not_caused (Some (step.Claimed block lock_answer.Held)) off = left_free (schedule.whole_block_request block)
   not_caused (Some (step.Claimed block lock_answer.Fetch)) off = tt
   not_caused (Some (step.Claimed block lock_answer.Outside)) off = tt
-  not_caused (Some (step.Claimed block lock_answer.NoMemory)) off = left_free (schedule.whole_block_request block)
+  not_caused (Some (step.Claimed block (lock_answer.NoMemory error))) off = left_free (schedule.whole_block_request block)
   not_caused (Some (step.Commit count committing.Foreign)) off = absurd (true≢false off)
   not_caused (Some (step.Commit count (committing.Committed place))) off = tt
   not_caused (Some (step.Commit count committing.Full)) off = tt
-  not_caused (Some (step.Commit count committing.NoMemory)) off = tt
+  not_caused (Some (step.Commit count (committing.NoMemory error))) off = tt
   not_caused (Some (step.Commit count committing.Broken)) off = tt
   not_caused (Some (step.Commit count committing.Spent)) off = tt
   not_caused None off = tt

@@ -154,7 +154,7 @@ module _ (old new : WorkerAndCore) where
   wanted_loads tx addr mode has_space (want.Loading back) is loaded =
       off_loads (lock_request.Object addr mode) back tx has_space old.worker.asked is.0 is.2 loaded
   wanted_loads tx addr mode has_space (want.Outside back) is loaded = tt
-  wanted_loads tx addr mode has_space (want.NoMemory back) is loaded = tt
+  wanted_loads tx addr mode has_space (want.NoMemory back error) is loaded = tt
 
   -- a lock request to claim
   claimed_loads : (tx : ℕ) (block : BlockNo) (addr : Addr) (has_space : Bool) (answer : Claim)
@@ -172,7 +172,7 @@ module _ (old new : WorkerAndCore) where
   claimed_loads tx block addr has_space (claim.Loading back) is loaded =
       off_loads (lock_request.Claim block) back tx has_space old.worker.asked is.0 is.2 loaded
   claimed_loads tx block addr has_space (claim.Outside back) is loaded = tt
-  claimed_loads tx block addr has_space (claim.NoMemory back) is loaded = tt
+  claimed_loads tx block addr has_space (claim.NoMemory back error) is loaded = tt
 
   -- a commit
   placed_loads : (job : Job) (reply : Reply) (place : Seq) (base : State) (stable : Bool)
@@ -190,7 +190,7 @@ module _ (old new : WorkerAndCore) where
       subst (λ (lock_requests : List LockRequest). All (IsLockRequestLoaded new.core back) lock_requests) (sym same)
       (same_loads back tx is.0.transaction is.0.core loaded)
   committed_loads tx job done base (commit.Foreign back change) same is loaded = tt
-  committed_loads tx job done base (commit.NoMemory back change) same is loaded = tt
+  committed_loads tx job done base (commit.NoMemory back change error) same is loaded = tt
   committed_loads tx job done base (commit.Broken back change) same is loaded = tt
   committed_loads tx job done base (commit.Spent back change) same is loaded = tt
 
@@ -324,7 +324,7 @@ module _ (old new : WorkerAndCore) where
       absurd (true≢false (sym has_space))
   full_so tx job done base (commit.Foreign back change) added tx_is job_is snap_is core is seen has_space plans =
       absurd (true≢false (sym has_space))
-  full_so tx job done base (commit.NoMemory back change) added tx_is job_is snap_is core is seen has_space plans =
+  full_so tx job done base (commit.NoMemory back change error) added tx_is job_is snap_is core is seen has_space plans =
       absurd (true≢false (sym has_space))
   full_so tx job done base (commit.Broken back change) added tx_is job_is snap_is core is seen has_space plans =
       absurd (true≢false (sym has_space))

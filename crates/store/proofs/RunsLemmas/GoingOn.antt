@@ -249,16 +249,17 @@ module _ (old new : CoreState) (is_preserved : PreservesTransactions old new)
 pub record LeavesWorkersUnchanged (made : Option Step) : Type 0 where
   pub no_commit : commits made ≡ false
   pub begun : (run_state : RunState) (now : Event) → (state_after run_state now made).begun ≡ run_state.begun
+  pub refused : (run_state : RunState) (now : Event) → (state_after run_state now made).refused ≡ run_state.refused
 
 no_step : LeavesWorkersUnchanged None
-no_step = record { no_commit = refl; begun = λ run_state now. refl }
+no_step = record { no_commit = refl; begun = λ run_state now. refl; refused = λ run_state now. refl }
 
 is_none : (made : Option Step) → made ≡ None → LeavesWorkersUnchanged made
 is_none made is = subst LeavesWorkersUnchanged (sym is) no_step
 
 log_next : (may : Bool) (made : Option Step) (o : Setting) (log : LogState)
     → IsNextOfLog may (next_log_call o.position log) made → LeavesWorkersUnchanged made
-log_next true (Some (step.LogNext call)) o log is = record { no_commit = refl; begun = λ run_state now. refl }
+log_next true (Some (step.LogNext call)) o log is = record { no_commit = refl; begun = λ run_state now. refl; refused = λ run_state now. refl }
 log_next true None o log is = absurd is
 log_next true (Some _) o log is = absurd is
 log_next false made o log is = is_none made is
@@ -268,11 +269,11 @@ of_log : (call : CallState) (made : Option Step) (o : Setting) (log : LogState) 
 of_log idle made o log is = log_next (state_may_log log) made o log is
 of_log (out call) made o log is = is_none made is
 of_log (was_made call ok) made o log is =
-    subst LeavesWorkersUnchanged (sym is) (record { no_commit = refl; begun = λ run_state now. refl })
+    subst LeavesWorkersUnchanged (sym is) (record { no_commit = refl; begun = λ run_state now. refl; refused = λ run_state now. refl })
 
 inst_next : (may : Bool) (made : Option Step) (o : Setting) (log : LogState)
     → IsNextOfInstaller may (IsNextOfInstalling o.geometry.blocks log) made → LeavesWorkersUnchanged made
-inst_next true (Some (step.InstNext call)) o log is = record { no_commit = refl; begun = λ run_state now. refl }
+inst_next true (Some (step.InstNext call)) o log is = record { no_commit = refl; begun = λ run_state now. refl; refused = λ run_state now. refl }
 inst_next true None o log is = absurd is
 inst_next true (Some _) o log is = absurd is
 inst_next false made o log is = is_none made is
@@ -282,17 +283,17 @@ of_installer : (call : CallState) (made : Option Step) (o : Setting) (log : LogS
 of_installer idle made o log is = inst_next (state_may_install log) made o log is
 of_installer (out call) made o log is = is_none made is
 of_installer (was_made call ok) made o log is =
-    subst LeavesWorkersUnchanged (sym is) (record { no_commit = refl; begun = λ run_state now. refl })
+    subst LeavesWorkersUnchanged (sym is) (record { no_commit = refl; begun = λ run_state now. refl; refused = λ run_state now. refl })
 
 of_log_io : (call : CallState) (made : Option Step) → IsStepOfLogIo call made → LeavesWorkersUnchanged made
-of_log_io (out call) (Some (step.LogIo ok)) is = record { no_commit = refl; begun = λ run_state now. refl }
+of_log_io (out call) (Some (step.LogIo ok)) is = record { no_commit = refl; begun = λ run_state now. refl; refused = λ run_state now. refl }
 of_log_io (out call) None is = absurd is
 of_log_io (out call) (Some _) is = absurd is
 of_log_io idle made is = is_none made is
 of_log_io (was_made call ok) made is = is_none made is
 
 of_inst_io : (call : CallState) (made : Option Step) → IsStepOfInstIo call made → LeavesWorkersUnchanged made
-of_inst_io (out call) (Some (step.InstIo ok)) is = record { no_commit = refl; begun = λ run_state now. refl }
+of_inst_io (out call) (Some (step.InstIo ok)) is = record { no_commit = refl; begun = λ run_state now. refl; refused = λ run_state now. refl }
 of_inst_io (out call) None is = absurd is
 of_inst_io (out call) (Some _) is = absurd is
 of_inst_io idle made is = is_none made is
@@ -425,6 +426,7 @@ module _ (b : Beginning) (now : Event) (old new : StoreState) (made : Option Ste
       log = log_state_follows run_state now made ∙ ap (λ (log : LogState). next_log_state log made) going.run.is_run_state.log
           ∙ sym went.log_follows;
       begun = log_unchanged.begun run_state now ∙ going.run.is_run_state.begun ∙ sym is.core.begun;
+      refused = log_unchanged.refused run_state now ∙ going.run.is_run_state.refused ∙ sym is.core.refused;
     };
     leads = subst (λ (es : List Entry). leads_to b.tree es going.last) (sym (same_entries t made))
         going.run.leads;

@@ -145,7 +145,7 @@ tracing boot number clock progress (Some (step.Commit added (committing.Committe
     with_one added place refl is
 tracing boot number clock progress (Some (step.Commit added committing.Full)) before mid is = with_none refl refl is
 tracing boot number clock progress (Some (step.Commit added committing.Foreign)) before mid is = with_none refl refl is
-tracing boot number clock progress (Some (step.Commit added committing.NoMemory)) before mid is = with_none refl refl is
+tracing boot number clock progress (Some (step.Commit added (committing.NoMemory error))) before mid is = with_none refl refl is
 tracing boot number clock progress (Some (step.Commit added committing.Broken)) before mid is = with_none refl refl is
 tracing boot number clock progress (Some (step.Commit added committing.Spent)) before mid is = with_none refl refl is
 tracing boot number clock progress None before mid is = with_none refl refl is
@@ -356,6 +356,7 @@ module _ (b : Beginning) (number clock : ℕ) (store : StoreState) (workers all_
             ∙ ap (λ (s : Setting). log_state_of s.position core.log store.logging store.installing)
             (sym left.setting);
         begun = state_agrees_then.begun;
+        refused = state_agrees_then.refused;
       };
       leads = subst (λ (es : List Entry). leads_to b.tree es left.next) (sym entries_are) left.leads;
       files = λ place. subst (λ (es : List Entry). StandsAfter left.later.geometry b.tree (take place es)

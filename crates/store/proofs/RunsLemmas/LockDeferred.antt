@@ -94,9 +94,9 @@ abbrev pub IsCaused : RunState → ℕ → Option Step → Type 0
 IsCaused run_state number (Some (step.Wanted addr mode lock_answer.Held)) = IsLeftFree run_state number (range_request_at addr mode)
 IsCaused run_state number (Some (step.Wanted addr mode lock_answer.Fetch)) =
     IsLeftFree run_state number (range_request_at addr mode) × IsSoOfNoOther run_state number (has_loaded addr.block)
-IsCaused run_state number (Some (step.Wanted addr mode lock_answer.NoMemory)) = IsLeftFree run_state number (range_request_at addr mode)
+IsCaused run_state number (Some (step.Wanted addr mode (lock_answer.NoMemory error))) = IsLeftFree run_state number (range_request_at addr mode)
 IsCaused run_state number (Some (step.Claimed block lock_answer.Held)) = IsLeftFree run_state number (whole_block_request block)
-IsCaused run_state number (Some (step.Claimed block lock_answer.NoMemory)) = IsLeftFree run_state number (whole_block_request block)
+IsCaused run_state number (Some (step.Claimed block (lock_answer.NoMemory error))) = IsLeftFree run_state number (whole_block_request block)
 IsCaused run_state number (Some (step.Wanted addr mode lock_answer.Busy)) =
     IsSoOfAnother run_state number (has_taken (range_request_at addr mode))
 IsCaused run_state number (Some (step.Wanted addr mode lock_answer.Loading)) = IsSoOfAnother run_state number (fetches addr.block)
@@ -321,7 +321,7 @@ module _ (boot : ℕ) (entries : List Entry) (run_state : RunState) (core : Core
     wanted_caused new addr mode asks (want.Fetch back io) is =
         (free_so addr mode is.1, unloaded_so addr mode is.2.absent)
     wanted_caused new addr mode asks (want.Outside back) is = tt
-    wanted_caused new addr mode asks (want.NoMemory back) is = free_so addr mode is.1
+    wanted_caused new addr mode asks (want.NoMemory back error) is = free_so addr mode is.1
     wanted_caused new addr mode asks (want.Busy back) is = busy_so addr mode (deferred addr mode asks is.1)
     wanted_caused new addr mode asks (want.Loading back) is = loading_so addr.block is.1.2
 
@@ -340,7 +340,7 @@ module _ (boot : ℕ) (entries : List Entry) (run_state : RunState) (core : Core
     claimed_caused new block addr claims whole (claim.Held back) is =
         subst (IsLeftFree run_state number) (same_request block addr whole) (free_so addr modes.Exclusive is.1)
     claimed_caused new block addr claims whole (claim.Outside back) is = tt
-    claimed_caused new block addr claims whole (claim.NoMemory back) is =
+    claimed_caused new block addr claims whole (claim.NoMemory back error) is =
         subst (IsLeftFree run_state number) (same_request block addr whole) (free_so addr modes.Exclusive is.1)
     claimed_caused new block addr claims whole (claim.Busy back) is =
         subst (λ (w : RangeRequest). IsSoOfAnother run_state number (has_taken w)) (same_request block addr whole)
@@ -477,7 +477,7 @@ module _ (boot : ℕ) (entries : List Entry) (run_state : RunState) (core : Core
         → IsCaused run_state number (Some (step.Commit added (committing_of answer)))
     committed_caused new added (commit.Committed receipt) is = tt
     committed_caused new added (commit.Full back same) is = tt
-    committed_caused new added (commit.NoMemory back same) is = tt
+    committed_caused new added (commit.NoMemory back same error) is = tt
     committed_caused new added (commit.Broken back same) is = tt
     committed_caused new added (commit.Spent back same) is = tt
     committed_caused new added (commit.Foreign back same) is = is.2 own

@@ -50,14 +50,14 @@ module _ (old new : WorkerAndCore) where
   wanted_within tx addr mode (want.Busy back) is = tt
   wanted_within tx addr mode (want.Loading back) is = tt
   wanted_within tx addr mode (want.Outside back) is = tt
-  wanted_within tx addr mode (want.NoMemory back) is = tt
+  wanted_within tx addr mode (want.NoMemory back error) is = tt
 
   claimed_none : (answer : Claim) → (begun_claimed answer).io ≡ None
   claimed_none (claim.Held back) = refl
   claimed_none (claim.Busy back) = refl
   claimed_none (claim.Loading back) = refl
   claimed_none (claim.Outside back) = refl
-  claimed_none (claim.NoMemory back) = refl
+  claimed_none (claim.NoMemory back error) = refl
 
   placed_none : (job : Job) (reply : Reply) (place : Seq) (base : State) (stable : Bool)
       → (with_entry job reply (answered_or_waiting stable job reply place base)).begun ≡ base.begun
@@ -70,7 +70,7 @@ module _ (old new : WorkerAndCore) where
       ap (λ (b : Begun). b.io) (placed_none job reply receipt.place base (is_answered_stable job.call) ∙ none)
   committed_none job reply base (commit.Full back change) none = refl
   committed_none job reply base (commit.Foreign back change) none = refl
-  committed_none job reply base (commit.NoMemory back change) none = refl
+  committed_none job reply base (commit.NoMemory back change error) none = refl
   committed_none job reply base (commit.Broken back change) none = refl
   committed_none job reply base (commit.Spent back change) none = refl
 

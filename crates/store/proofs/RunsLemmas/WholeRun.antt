@@ -1,5 +1,5 @@
 -- A whole run: what begins it, what an event that was taken leaves of it, and its promise at the end.
-use Rattle.std.proofs.Common.{◌≡◌, ◌∙◌, refl, sym, ap, subst, ℕ, zero, suc, ◌+◌, All, List, [], ◌∷◌, ◌++◌, length}
+use Rattle.std.proofs.Common.{◌≡◌, ◌∙◌, refl, sym, ap, subst, ℕ, zero, suc, ◌+◌, All, List, [], ◌∷◌, ◌++◌, length, alloc_error}
 use Rattle.std.proofs.Common.{Some, None, slice_get, true≢false, nat_eq, inl, arith}
 use Rattle.std.specs.List.{list_any}
 use Rattle.std.proofs.lemmas.List.Elements.{All-head, All-nil, All-tail}
@@ -176,7 +176,7 @@ module _ (before : Device) (tree : Tree) (first workers : ℕ) (events : Schedul
 
 pub refused_before : (keeps_model : Type 0) (before : Device) (tree : Tree) (first : ℕ) (events : Schedule)
     → AreBlocks before → MayRun keeps_model before tree first events
-    → IsRefused before before tree first fault.NoMemory
+    → IsRefused before before tree first (fault.NoMemory alloc_error)
 refused_before keeps_model before tree first events blocks may = record {
   past = past_none before;
   left = some_image before before blocks;

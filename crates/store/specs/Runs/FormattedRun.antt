@@ -50,4 +50,4 @@ abbrev pub IsNotMade : FormatFault → ℕ → ℕ → Type 0
 IsNotMade fault.Size blocks inodes = ¬ IsLawfulSize blocks
 IsNotMade fault.Inodes blocks inodes = IsLawfulSize blocks × (¬ IsLawfulCount blocks inodes)
 IsNotMade fault.Device blocks inodes = IsLawful blocks inodes
-IsNotMade fault.NoMemory blocks inodes = Unit {0}
+IsNotMade (fault.NoMemory error) blocks inodes = Unit {0}

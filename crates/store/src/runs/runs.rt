@@ -38,8 +38,9 @@ pub fn run<D: CrashDisk>(
 {
     store_law::a_run_begins();
     store_law::a_run_preserves_its_promise();
-    let Ok(reserved_workers) = Vec::with_capacity(alloc, workers) else {
-        return (disk, Err(OpenFault::NoMemory));
+    let reserved_workers = match Vec::with_capacity(alloc, workers) {
+        Ok(reserved_workers) => reserved_workers,
+        Err(error) => return (disk, Err(OpenFault::NoMemory(error))),
     };
     let store = match open(alloc, disk) {
         Ok(store) => store,

@@ -134,7 +134,7 @@ module _ (before mid now later : Device) (tree : Tree) (first : ℕ) (holds : Ho
 pub refused_begins : (before later : Device) (tree : Tree) (first : ℕ) (cause : OpenFault)
     → IsCauseOf cause before later first → HoldsTree later tree first → Begins before later tree first (Err cause)
 refused_begins before later tree first fault.Device because holds = because
-refused_begins before later tree first fault.NoMemory because holds = (because, holds)
+refused_begins before later tree first (fault.NoMemory error) because holds = (because, holds)
 refused_begins before later tree first fault.Range because holds = (because, holds)
 refused_begins before later tree first fault.Magic because holds = (because, holds)
 refused_begins before later tree first fault.Version because holds = (because, holds)
@@ -143,7 +143,7 @@ refused_begins before later tree first fault.Log because holds = (because, holds
 counts_along : (cause : OpenFault) (before mid later : Device) → mid.failures ≡ before.failures
     → CountsCause cause mid later → CountsCause cause before later
 counts_along fault.Device before mid later same counts = omega (arith, counts, same)
-counts_along fault.NoMemory before mid later same counts = counts ∙ same
+counts_along (fault.NoMemory error) before mid later same counts = counts ∙ same
 counts_along fault.Range before mid later same counts = counts ∙ same
 counts_along fault.Magic before mid later same counts = counts ∙ same
 counts_along fault.Version before mid later same counts = counts ∙ same

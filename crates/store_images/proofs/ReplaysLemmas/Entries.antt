@@ -1,5 +1,5 @@
 -- Entries that lead on, one after another.
-use Rattle.std.proofs.Common.{◌≡◌, ◌∙◌, refl, sym, ap, subst, ℕ, ◌+◌, ◌<◌, arith, List, [], ◌∷◌, ◌++◌, length, take, get_or}
+use Rattle.std.proofs.Common.{◌≡◌, ◌∙◌, refl, sym, ap, subst, ℕ, ◌+◌, ◌<◌, arith, List, [], ◌∷◌, ◌++◌, length, take, get_or, alloc_error}
 use Rattle.std.proofs.Common.{Ok, Err, Result, inl, inr}
 use Rattle.std.specs.Prelude.{MatchResult}
 use Rattle.std.specs.Result.{IsErrOf}
@@ -41,9 +41,9 @@ entries_more tree middle next entries index entry less is before transition =
 -- an entry failed behind others
 pub goes_so_far : (g : Geometry) (mid later : Device) (tree left : Tree) (boot : ℕ) (entries : List (Ctx × Call))
     (index : ℕ) (cause : OpenFault) → after_entries tree (take index entries) left → HoldsAtHome g mid left boot
-    → (IsErrOf {T = Unit {0}} (Err cause) fault.NoMemory → HasOnlyRead mid later)
+    → (IsErrOf {T = Unit {0}} (Err cause) (fault.NoMemory alloc_error) → HasOnlyRead mid later)
     → GoesThrough g later tree boot entries (Err cause)
-goes_so_far g mid later tree left boot entries index fault.NoMemory transition holds reads =
+goes_so_far g mid later tree left boot entries index (fault.NoMemory error) transition holds reads =
     (index, left, transition, home_then g mid later left boot (reads refl) holds)
 goes_so_far g mid later tree left boot entries index fault.Device transition holds reads = tt
 goes_so_far g mid later tree left boot entries index fault.Magic transition holds reads = tt
@@ -68,7 +68,7 @@ none_replayed later tree first entries holds = record {
 pub not_begun : (before later : Device) (tree : Tree) (first : ℕ) (entries : List (Ctx × Call)) (cause : OpenFault)
     → Begins before later tree first (Err cause) → ComesOfReplay before later tree first entries (Err cause)
 not_begun before later tree first entries fault.Device begins = begins
-not_begun before later tree first entries fault.NoMemory begins =
+not_begun before later tree first entries (fault.NoMemory error) begins =
     (begins.0, none_replayed later tree first entries begins.1)
 not_begun before later tree first entries fault.Range begins =
     (begins.0, none_replayed later tree first entries begins.1)
@@ -85,7 +85,7 @@ module _ (g : Geometry) (before mid later : Device) (tree : Tree) (first : ℕ) 
       → GoesThrough g later tree (first + 1) entries (Err cause)
       → ComesOfReplay before later tree first entries (Err cause)
   stopped fault.Device failed through = omega (arith, failed, same)
-  stopped fault.NoMemory failed through = (
+  stopped (fault.NoMemory error) failed through = (
     failed ∙ same,
     record {
       count = through.0;

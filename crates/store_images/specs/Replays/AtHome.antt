@@ -56,7 +56,7 @@ Begins before later tree first (Err cause) = IsCauseOf cause before later first 
 -- a device call failed, or memory was refused
 abbrev pub IsFailure : OpenFault → Device → Device → Type 0
 IsFailure fault.Device before later = before.failures < later.failures
-IsFailure fault.NoMemory before later = later.failures ≡ before.failures
+IsFailure (fault.NoMemory error) before later = later.failures ≡ before.failures
 IsFailure fault.Magic before later = ⊥
 IsFailure fault.Version before later = ⊥
 IsFailure fault.Range before later = ⊥

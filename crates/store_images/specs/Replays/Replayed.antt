@@ -45,7 +45,7 @@ after_entries tree (entry ∷ entries) last = (next : Tree)
 abbrev pub GoesThrough : Geometry → Device → Tree → ℕ → List (Ctx × Call) → Result Unit OpenFault → Type 0
 GoesThrough g later tree boot entries (Ok _) =
     (last : Tree) × after_entries tree entries last × HoldsAtHome g later last boot
-GoesThrough g later tree boot entries (Err fault.NoMemory) = (count : ℕ) × (left : Tree)
+GoesThrough g later tree boot entries (Err (fault.NoMemory error)) = (count : ℕ) × (left : Tree)
     × after_entries tree (take count entries) left × HoldsAtHome g later left boot
 GoesThrough g later tree boot entries (Err cause) = Unit {0}
 

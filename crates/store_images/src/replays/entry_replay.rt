@@ -1,5 +1,5 @@
 //! Entries of a history, replayed over an image.
-ghost use Rattle.std.specs.Prelude.{◌≡◌, ◌+◌, ◌^◌, ◌<◌, ◌≤◌, ℕ, Some, None, All, IfErr, IsErrOf, MatchResult, OnOk};
+ghost use Rattle.std.specs.Prelude.{◌≡◌, ◌+◌, ◌^◌, ◌<◌, ◌≤◌, ℕ, Some, None, All, alloc_error, IfErr, IsErrOf, MatchResult, OnOk};
 ghost use Rattle.nfs_spec.specs.Model.Calls.{begins_transaction};
 ghost use Rattle.layout.specs.declared.version.FormatVersion.TheVariants.{Second};
 ghost use Rattle.nfs_spec.specs.Model.Sound.{SoundTime};
@@ -46,9 +46,7 @@ pub fn replay<D: CrashDisk>(
         → ComesOfReplay (D.device disk.old) (D.device disk.new) tree first entries.now result }
     ensures model { D.keeps_model disk.new → D.keeps_model disk.old }
 {
-    let Ok(mut block) = Block::zeros(alloc) else {
-        return Err(OpenFault::NoMemory);
-    };
+    let mut block = Block::zeros(alloc)?;
     let geometry = begin(alloc, disk, &mut block)?;
     replay_all(alloc, disk, &mut block, geometry, entries)
 }
@@ -96,7 +94,7 @@ fn replay_one<D: CrashDisk>(
     ensures later { IsLater (D.device disk.old) (D.device disk.new) }
     ensures failure { MatchResult result (λ _. (D.device disk.new).failures ≡ (D.device disk.old).failures)
         (λ cause. IsFailure cause (D.device disk.old) (D.device disk.new)) }
-    ensures is_preserved { IsErrOf result OpenFault.NoMemory → HasOnlyRead (D.device disk.old) (D.device disk.new) }
+    ensures is_preserved { IsErrOf result (OpenFault.NoMemory alloc_error) → HasOnlyRead (D.device disk.old) (D.device disk.new) }
     ensures replayed { (tree : Tree) (boot : ℕ) → HoldsAtHome geometry (D.device disk.old) tree boot
         → ctx.now.boot ≤ boot → D.keeps_model disk.new → OnOk result ((next : Tree)
         × leads (begins_transaction call.now) tree ctx.now call.now next

@@ -54,14 +54,12 @@ pub(crate) fn plan_over<D: CrashDisk>(
     a_plan_claims_few();
     let mut snap = Snap::new(alloc, geometry, 0, Mode::Exclusive);
     'asks: loop {
-        if snap.reserve_next().is_err() {
-            return Err(OpenFault::NoMemory);
-        }
+        snap.reserve_next()?;
         match plan(alloc, ctx, call, &snap) {
             Plan::Need(addr, mode) => read_object(alloc, disk, block, &mut snap, addr, mode)?,
             Plan::Claim(number) => snap.claimed(number),
             Plan::Done(done) => return Ok(done),
-            Plan::NoMemory => return Err(OpenFault::NoMemory),
+            Plan::NoMemory(error) => return Err(OpenFault::NoMemory(error)),
         }
     }
 }
@@ -90,9 +88,7 @@ fn read_object<D: CrashDisk>(
     if let Err(Failed) = disk.read(addr.block, block) {
         return Err(OpenFault::Device);
     }
-    let Ok(bytes) = extract(alloc, block, addr) else {
-        return Err(OpenFault::NoMemory);
-    };
+    let bytes = extract(alloc, block, addr)?;
     snap.add(addr, mode, bytes);
     Ok(())
 }

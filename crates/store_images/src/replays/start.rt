@@ -52,9 +52,7 @@ pub(crate) fn begin<D: CrashDisk>(
         geometry,
         boot: found.boot + 1,
     };
-    let Ok(bytes) = incremented.write(alloc) else {
-        return Err(OpenFault::NoMemory);
-    };
+    let bytes = incremented.write(alloc)?;
     match begin_home(disk, block, &logged, end, &bytes) {
         Ok(()) => Ok(geometry),
         Err(Failed) => Err(OpenFault::Device),
@@ -86,7 +84,7 @@ fn find_log<D: CrashDisk>(
         }
         Err(LogFault::Range | LogFault::Address) => Err(OpenFault::Log),
         Err(LogFault::Device) => Err(OpenFault::Device),
-        Err(LogFault::NoMemory) => Err(OpenFault::NoMemory),
+        Err(LogFault::NoMemory(error)) => Err(OpenFault::NoMemory(error)),
     }
 }
 

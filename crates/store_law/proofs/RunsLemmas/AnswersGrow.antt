@@ -43,7 +43,7 @@ module _ (t : Transcript) (traced : Traced) where
   verdict_preserved asked (Called known) (step.Begun (Err why)) a has = has
   verdict_preserved asked (Planning begun) (step.Commit blocks (committing.Committed place)) a has =
       reply_preserved place a has
-  verdict_preserved asked (Planning begun) (step.Ended ending.NoMemory) a has = has
+  verdict_preserved asked (Planning begun) (step.Ended (ending.NoMemory error)) a has = has
   verdict_preserved asked (Refused begun why) (step.Ended ending.Refused) a has = has
   verdict_preserved asked (Waiting place) (step.Stable found true) a has = reply_preserved (seq place) a has
   verdict_preserved asked (Waiting place) (step.Stable found false) a has = has

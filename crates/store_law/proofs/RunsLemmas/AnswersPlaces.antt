@@ -53,7 +53,7 @@ answers_at t asked (Called known) step.Replied a place has is = absurd (no_place
 answers_at t asked (Called known) (step.Begun (Err why)) a place has is = absurd (no_place _ a place has is)
 answers_at t asked (Planning begun) (step.Commit blocks (committing.Committed at)) a place has is =
     commits_now begun blocks refl (ap (commit_of blocks) (same_seq at (seq place) a.place has.placed is))
-answers_at t asked (Planning begun) (step.Ended ending.NoMemory) a place has is =
+answers_at t asked (Planning begun) (step.Ended (ending.NoMemory error)) a place has is =
     absurd (no_place _ a place has is)
 answers_at t asked (Refused begun why) (step.Ended ending.Refused) a place has is =
     absurd (no_place _ a place has is)

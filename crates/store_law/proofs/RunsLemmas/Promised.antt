@@ -60,17 +60,17 @@ answer_case_of t asked a (Planning begun) (step.Commit blocks (committing.Commit
     at_commit blocks place refl has
 answer_case_of t asked a (Planning begun) (step.Commit blocks committing.Full) has = absurd has
 answer_case_of t asked a (Planning begun) (step.Commit blocks committing.Foreign) has = absurd has
-answer_case_of t asked a (Planning begun) (step.Commit blocks committing.NoMemory) has = absurd has
+answer_case_of t asked a (Planning begun) (step.Commit blocks (committing.NoMemory error)) has = absurd has
 answer_case_of t asked a (Planning begun) (step.Commit blocks committing.Broken) has = absurd has
 answer_case_of t asked a (Planning begun) (step.Commit blocks committing.Spent) has = absurd has
-answer_case_of t asked a (Planning begun) (step.Ended ending.NoMemory) has = of_none has.0
+answer_case_of t asked a (Planning begun) (step.Ended (ending.NoMemory error)) has = of_none has.0
 answer_case_of t asked a (Planning begun) (step.Ended ending.Refused) has = absurd has
 answer_case_of t asked a (Planning begun) (step.Ended ending.Again) has = absurd has
 answer_case_of t asked a (Planning begun) _ has = absurd has
 answer_case_of t asked a (Reading begun taken) _ has = absurd has
 answer_case_of t asked a (Read begun taken ok) _ has = absurd has
 answer_case_of t asked a (Refused begun why) (step.Ended ending.Refused) has = of_none has.0
-answer_case_of t asked a (Refused begun why) (step.Ended ending.NoMemory) has = absurd has
+answer_case_of t asked a (Refused begun why) (step.Ended (ending.NoMemory error)) has = absurd has
 answer_case_of t asked a (Refused begun why) (step.Ended ending.Again) has = absurd has
 answer_case_of t asked a (Refused begun why) _ has = absurd has
 answer_case_of t asked a (Again begun request) _ has = absurd has

@@ -61,7 +61,7 @@ wanted_number begun taken lock_answer.Fetch = refl
 wanted_number begun taken lock_answer.Busy = off_number begun (lock_request_of taken)
 wanted_number begun taken lock_answer.Loading = off_number begun (lock_request_of taken)
 wanted_number begun taken lock_answer.Outside = refl
-wanted_number begun taken lock_answer.NoMemory = refl
+wanted_number begun taken (lock_answer.NoMemory error) = refl
 
 wanted_place : (begun : Begun) (taken : Taken) (answer : LockAnswer)
     → stage_place (after_wanted begun taken answer) ≡ None
@@ -70,7 +70,7 @@ wanted_place begun taken lock_answer.Fetch = refl
 wanted_place begun taken lock_answer.Busy = off_place begun (lock_request_of taken)
 wanted_place begun taken lock_answer.Loading = off_place begun (lock_request_of taken)
 wanted_place begun taken lock_answer.Outside = refl
-wanted_place begun taken lock_answer.NoMemory = refl
+wanted_place begun taken (lock_answer.NoMemory error) = refl
 
 claimed_number : (begun : Begun) (block : BlockNo) (answer : LockAnswer)
     → stage_number (after_claimed begun block answer) ≡ Some begun.number
@@ -80,7 +80,7 @@ claimed_number begun block lock_answer.Fetch = refl
 claimed_number begun block lock_answer.Busy = off_number begun (lock_request.Claim block)
 claimed_number begun block lock_answer.Loading = off_number begun (lock_request.Claim block)
 claimed_number begun block lock_answer.Outside = refl
-claimed_number begun block lock_answer.NoMemory = refl
+claimed_number begun block (lock_answer.NoMemory error) = refl
 
 claimed_place : (begun : Begun) (block : BlockNo) (answer : LockAnswer)
     → stage_place (after_claimed begun block answer) ≡ None
@@ -89,7 +89,7 @@ claimed_place begun block lock_answer.Fetch = refl
 claimed_place begun block lock_answer.Busy = off_place begun (lock_request.Claim block)
 claimed_place begun block lock_answer.Loading = off_place begun (lock_request.Claim block)
 claimed_place begun block lock_answer.Outside = refl
-claimed_place begun block lock_answer.NoMemory = refl
+claimed_place begun block (lock_answer.NoMemory error) = refl
 
 -- ---- numbers
 
@@ -100,7 +100,7 @@ module _ (number : ℕ) where
   of_commit false begun (committing.Committed place) is = cc
   of_commit stable begun committing.Full is = is
   of_commit stable begun committing.Foreign is = is
-  of_commit stable begun committing.NoMemory is = is
+  of_commit stable begun (committing.NoMemory error) is = is
   of_commit stable begun committing.Broken is = is
   of_commit stable begun committing.Spent is = is
 
@@ -185,7 +185,7 @@ module _ (place : ℕ) where
   by_commit false begun blocks (committing.Committed seq) is = cc
   by_commit stable begun blocks committing.Full is = cc
   by_commit stable begun blocks committing.Foreign is = cc
-  by_commit stable begun blocks committing.NoMemory is = cc
+  by_commit stable begun blocks (committing.NoMemory error) is = cc
   by_commit stable begun blocks committing.Broken is = cc
   by_commit stable begun blocks committing.Spent is = cc
 

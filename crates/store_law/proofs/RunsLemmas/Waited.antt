@@ -57,7 +57,7 @@ module _ (place : ℕ) where
   by_wanted begun taken lock_answer.Busy is = off begun (lock_request_of taken) is
   by_wanted begun taken lock_answer.Loading is = off begun (lock_request_of taken) is
   by_wanted begun taken lock_answer.Outside is = cc
-  by_wanted begun taken lock_answer.NoMemory is = cc
+  by_wanted begun taken (lock_answer.NoMemory error) is = cc
 
   by_claimed : (begun : Begun) (block : BlockNo) (answer : LockAnswer)
       → Some (after_claimed begun block answer) ≡ there → ⊥
@@ -66,7 +66,7 @@ module _ (place : ℕ) where
   by_claimed begun block lock_answer.Busy is = off begun (lock_request.Claim block) is
   by_claimed begun block lock_answer.Loading is = off begun (lock_request.Claim block) is
   by_claimed begun block lock_answer.Outside is = cc
-  by_claimed begun block lock_answer.NoMemory is = cc
+  by_claimed begun block (lock_answer.NoMemory error) is = cc
 
   by_commit : (stable : Bool) (begun : Begun) (blocks : List BlockNo) (answer : Committing)
       → after_commit stable begun answer ≡ there → Waits (Planning begun) (step.Commit blocks answer) place
@@ -77,7 +77,7 @@ module _ (place : ℕ) where
   by_commit false begun blocks (committing.Committed seq) is = cc
   by_commit stable begun blocks committing.Full is = cc
   by_commit stable begun blocks committing.Foreign is = cc
-  by_commit stable begun blocks committing.NoMemory is = cc
+  by_commit stable begun blocks (committing.NoMemory error) is = cc
   by_commit stable begun blocks committing.Broken is = cc
   by_commit stable begun blocks committing.Spent is = cc
 

@@ -45,8 +45,9 @@ impl State {
         ensures home { PreservesHome core.old core.new }
         ensures stays { (other : ℕ) → (other ≡ tx → ⊥) → PreservesReads core.old core.new other }
     {
-        let Ok(copy) = trace.copy_of(done.reply()) else {
-            return self.lack(core, tx);
+        let copy = match trace.copy_of(done.reply()) {
+            Ok(copy) => copy,
+            Err(error) => return self.lack(core, tx, error),
         };
         done.finished();
         let plan = Snapshot::of(&done);
@@ -87,9 +88,9 @@ impl State {
                 self.come_back(tx, change, Phase::Again);
                 Committing::Foreign
             }
-            Commit::NoMemory(tx, change) => {
-                self.come_back(tx, change, Phase::Refused(Cause::NoMemory));
-                Committing::NoMemory
+            Commit::NoMemory(tx, change, error) => {
+                self.come_back(tx, change, Phase::Refused(Cause::NoMemory(error)));
+                Committing::NoMemory(error)
             }
             Commit::Broken(tx, change) => {
                 self.come_back(tx, change, Phase::Refused(Cause::Io));

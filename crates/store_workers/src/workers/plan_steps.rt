@@ -9,7 +9,7 @@ use crate::options::put;
 use disk::BlockNo;
 use objects::{Addr, Mode, SharedBytes};
 use procs::{Done, Plan};
-use std::alloc::Global;
+use std::alloc::{AllocError, Global};
 use store_promise::{Cause, Ending, LockAnswer, LockRequest, Step, Verdict};
 use txn::{Claim, Core, Tx, Want};
 
@@ -107,7 +107,7 @@ impl State {
             Plan::Need(addr, mode) => self.want(alloc, core, tx, addr, mode),
             Plan::Claim(block) => self.claim(core, tx, block),
             Plan::Done(done) => self.commit(alloc, core, tx, done, trace),
-            Plan::NoMemory => self.lack(core, tx),
+            Plan::NoMemory(error) => self.lack(core, tx, error),
         }
     }
 
@@ -149,14 +149,17 @@ impl State {
         let (Some(job), Some(planner)) = (self.work.job.as_ref(), self.work.planner.as_mut()) else {
             unreachable!();
         };
-        if planner.reserve_next().is_err() || self.known.reserve_next().is_err() {
-            return Plan::NoMemory;
+        if let Err(error) = planner.reserve_next() {
+            return Plan::NoMemory(error);
+        }
+        if let Err(error) = self.known.reserve_next() {
+            return Plan::NoMemory(error);
         }
         planner.next(alloc, &job.ctx, &job.call)
     }
 
-    // Ends the transaction for want of memory.
-    pub(super) fn lack(&mut self, core: &mut Core<Done>, tx: Tx) -> Step
+    // Ends the transaction for want of memory, which was refused.
+    pub(super) fn lack(&mut self, core: &mut Core<Done>, tx: Tx, error: AllocError) -> Step
         requires { IsHeld self.old }
         ensures sound { IsSound self.new }
         ensures frame { SameFrame core.old core.new }
@@ -164,9 +167,9 @@ impl State {
         ensures home { PreservesHome core.old core.new }
         ensures stays { (other : ℕ) → (other ≡ tx → ⊥) → PreservesReads core.old core.new other }
     {
-        core.abort(tx);
-        self.give(Verdict::NoMemory, None);
-        Step::Ended(Ending::NoMemory)
+        core.abort_for(tx, error);
+        self.give(Verdict::NoMemory(error), None);
+        Step::Ended(Ending::NoMemory(error))
     }
 
     // Reads an object in the transaction, in a mode.
@@ -231,9 +234,9 @@ impl State {
                 self.go_on(tx, Phase::Refused(Cause::Io));
                 LockAnswer::Outside
             }
-            Want::NoMemory(tx) => {
-                self.go_on(tx, Phase::Refused(Cause::NoMemory));
-                LockAnswer::NoMemory
+            Want::NoMemory(tx, error) => {
+                self.go_on(tx, Phase::Refused(Cause::NoMemory(error)));
+                LockAnswer::NoMemory(error)
             }
         }
     }
@@ -330,9 +333,9 @@ impl State {
                 self.go_on(tx, Phase::Refused(Cause::Io));
                 LockAnswer::Outside
             }
-            Claim::NoMemory(tx) => {
-                self.go_on(tx, Phase::Refused(Cause::NoMemory));
-                LockAnswer::NoMemory
+            Claim::NoMemory(tx, error) => {
+                self.go_on(tx, Phase::Refused(Cause::NoMemory(error)));
+                LockAnswer::NoMemory(error)
             }
         }
     }

@@ -269,7 +269,7 @@ fn verdict(call: &Call, why: Cause) -> Verdict
     match why {
         Cause::Io => Verdict::Reply(refused_reply(call, Status::Io)),
         Cause::Spent => Verdict::Reply(refused_reply(call, Status::ServerFault)),
-        Cause::NoMemory => Verdict::NoMemory,
+        Cause::NoMemory(error) => Verdict::NoMemory(error),
     }
 }
 
@@ -280,6 +280,6 @@ fn cause_of(fault: BeginFault) -> Cause
     match fault {
         BeginFault::Broken => Cause::Io,
         BeginFault::Spent => Cause::Spent,
-        BeginFault::NoMemory => Cause::NoMemory,
+        BeginFault::NoMemory(error) => Cause::NoMemory(error),
     }
 }

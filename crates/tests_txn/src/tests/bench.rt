@@ -129,7 +129,7 @@ impl<D: CrashDisk> Bench<D> {
     // Begins a transaction, once more where it was refused memory.
     pub fn begin(&mut self) -> Option<Tx> {
         match self.core.begin() {
-            Err(BeginFault::NoMemory) => self.core.begin().ok(),
+            Err(BeginFault::NoMemory(_)) => self.core.begin().ok(),
             begun => begun.ok(),
         }
     }
@@ -191,7 +191,7 @@ impl<D: CrashDisk> Bench<D> {
             Want::Fetch(tx, io) => (tx, self.fetch(io)),
             Want::Loading(tx) => (tx, Seen::Loading),
             Want::Outside(tx) => (tx, Seen::Outside),
-            Want::NoMemory(tx) => (tx, Seen::NoMemory),
+            Want::NoMemory(tx, _) => (tx, Seen::NoMemory),
         }
     }
 
@@ -216,7 +216,7 @@ impl<D: CrashDisk> Bench<D> {
             }
             Want::Loading(tx) => (tx, None),
             Want::Outside(tx) => (tx, None),
-            Want::NoMemory(tx) => (tx, None),
+            Want::NoMemory(tx, _) => (tx, None),
         }
     }
 
@@ -225,7 +225,7 @@ impl<D: CrashDisk> Bench<D> {
         match self.core.want(self.alloc, tx, at.addr(), Mode::Exclusive) {
             Want::Fetch(tx, io) => (tx, Some(io)),
             Want::Held(tx, _) => (tx, None),
-            Want::Busy(tx) | Want::Loading(tx) | Want::Outside(tx) | Want::NoMemory(tx) => {
+            Want::Busy(tx) | Want::Loading(tx) | Want::Outside(tx) | Want::NoMemory(tx, _) => {
                 (tx, None)
             }
         }
@@ -261,14 +261,14 @@ impl<D: CrashDisk> Bench<D> {
             Claim::Busy(tx) => (tx, Seen::Busy),
             Claim::Loading(tx) => (tx, Seen::Loading),
             Claim::Outside(tx) => (tx, Seen::Outside),
-            Claim::NoMemory(tx) => (tx, Seen::NoMemory),
+            Claim::NoMemory(tx, _) => (tx, Seen::NoMemory),
         }
     }
 
     // Commits a change, and again where memory was refused.
     pub fn end(&mut self, tx: Tx, toy: Toy) -> Ended {
         match self.core.commit(self.alloc, tx, toy) {
-            Commit::NoMemory(tx, toy) => {
+            Commit::NoMemory(tx, toy, _) => {
                 let outcome = self.core.commit(self.alloc, tx, toy);
                 self.let_go(outcome)
             }
@@ -282,7 +282,7 @@ impl<D: CrashDisk> Bench<D> {
             Commit::Committed(receipt) => return Ended::Place(receipt.place()),
             Commit::Full(tx, _) => (tx, Ended::Full),
             Commit::Foreign(tx, _) => (tx, Ended::Foreign),
-            Commit::NoMemory(tx, _) => (tx, Ended::NoMemory),
+            Commit::NoMemory(tx, _, _) => (tx, Ended::NoMemory),
             Commit::Broken(tx, _) => (tx, Ended::Broken),
             Commit::Spent(tx, _) => (tx, Ended::Spent),
         };

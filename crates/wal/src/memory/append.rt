@@ -53,7 +53,7 @@ impl Wal {
                 self.places += 1;
                 Append::Appended
             }
-            Err(_) => Append::NoMemory,
+            Err(error) => Append::NoMemory(error),
         }
     }
 }

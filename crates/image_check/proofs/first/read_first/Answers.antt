@@ -13,13 +13,13 @@ returns-clause-failure g c =
     let old : Device = g.D.CrashDisk.device c.args.disk.now in
     let new : Device = g.D.CrashDisk.device c.read_super.new.disk in
     subst (λ cause. CountsCheck {T = Super} old new (Err cause)) (sym c.of_open.ensures)
-    (counts_open Super old new c.in-Err.cause c.in-Err.ensures.failure)
+    (counts_open Super old new c.in-Err-read_super.cause c.in-Err-read_super.ensures.failure)
 
 pub returns-clause-refused : goal.returns-clause-refused
 returns-clause-refused g c = λ preserves clean.
     let old : Device = g.D.CrashDisk.device c.args.disk.now in
     let new : Device = g.D.CrashDisk.device c.read_super.new.disk in
     subst (IsRefusal (IsNotGood old.size (image_of old))) (sym c.of_open.ensures)
-    (refused_first (g.D.CrashDisk.keeps_model c.read_super.new.disk) c.in-Err.cause old new
-    c.in-Err.ensures.refused preserves
+    (refused_first (g.D.CrashDisk.keeps_model c.read_super.new.disk) c.in-Err-read_super.cause old new
+    c.in-Err-read_super.ensures.refused preserves
     clean)

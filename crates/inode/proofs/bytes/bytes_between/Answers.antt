@@ -1,4 +1,4 @@
-use Rattle.std.proofs.Common.{◌/◌, rules, ◌≡◌, ℕ, ◌-◌, take, drop, ap, ◌∙◌, arith}
+use Rattle.std.proofs.Common.{◌/◌, rules, ◌≡◌, ℕ, ◌+◌, ◌-◌, ◌<◌, ◌^◌, List, length, length-append, take, drop, ap, ◌∙◌, arith}
 use Rattle.inode.specs.Over.{all_bytes}
 use Rattle.base.specs.declared.TheConstants.{BLOCK_BYTES}
 use Rattle.inode.specs.Asked.{IsNeededBetween}
@@ -24,6 +24,9 @@ pieces-preserved c =
           ∙ next_piece c.args.snap.now blocks tree file c.args.inode.now has c.in_ok-number.number c.pieces.at
           c.piece_len-len.result (omega (arith, more, small)) c.piece_len-len.ensures.within
           (c.in_ok-number.ensures.ok blocks tree file has)),
+      (let put = ap (λ (bytes : List ℕ). length bytes) c.in_ok-push.ensures.put in
+          let long = length-append c.pieces.bytes c.in_ok-part.part in let short = c.in_ok-part.ensures.short in
+          let before = c.pieces.invariant.3 in omega (arith, put, long, short, before)),
     )
 
 pub returns-clause-ok : goal.returns-clause-ok
@@ -61,3 +64,8 @@ returns-in_err-part-clause-asks c =
     (omega (arith, from)) (omega (arith, below)) c.in_err-part.field-0.0
     (may_mapped_at c.args.snap.now c.args.inode.now (c.pieces.at / BLOCK_BYTES) c.in_ok-number.number
     c.in_ok-number.ensures.read c.in_err-part.field-0.0 c.in_err-part.ensures.asks))
+
+pub push-requires : goal.push-requires
+push-requires c =
+    let before = c.pieces.invariant.3 in let short = c.in_ok-part.ensures.short in
+    let end = c.piece_len-len.ensures.end in let small = c.requires.small in omega (arith, before, short, end, small)

@@ -1,5 +1,5 @@
 -- the bytes so far are those of the blocks up to this place
-use Rattle.std.proofs.Common.{◌≡◌, ℕ, ◌-◌, ◌≤◌, take, drop}
+use Rattle.std.proofs.Common.{◌≡◌, ℕ, ◌+◌, ◌-◌, ◌≤◌, length, take, drop}
 use Rattle.disk.specs.Crash.{Image}
 use Rattle.nfs_spec.specs.Model.Tree.{Tree}
 use Rattle.inode.specs.Over.{HasInode, all_bytes}
@@ -10,6 +10,7 @@ invariant-pieces l =
     (l.start ≤ l.at) × (l.at ≤ l.end)
     × ((blocks : Image) (tree : Tree) (file : ℕ) → HasInode l.snap blocks tree file l.inode
     → l.bytes ≡ take (l.at - l.start) (drop l.start (all_bytes l.snap.geometry blocks l.inode)))
+    × (length l.bytes + l.start ≤ l.at)
 
 abbrev pub decreases-pieces : goal.decreases-pieces
 decreases-pieces l = l.end - l.at

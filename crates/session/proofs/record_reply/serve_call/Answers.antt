@@ -1,10 +1,10 @@
-use Rattle.std.proofs.Common.{refl, sym, subst, List, ℕ}
+use Rattle.std.proofs.Common.{sym, subst, List, ℕ}
 use Rattle.nfs_types.specs.declared.program.ProgramCall.{ProgramCall}
 use Rattle.nfs_types.specs.Fits.{ProgramCallFits}
 use Rattle.session_wire.specs.declared.message.ReplyBody.{ReplyBody}
 use Rattle.session_wire.specs.Replies.{body_of}
 use Rattle.store_images.specs.Opening.{store_of}
-use Rattle.session.specs.Replying.{IsCallAnswered, IsMountReply, IsSpelled}
+use Rattle.session.specs.Replying.{IsCallAnswered, IsMounted, IsSpelled}
 use Rattle.session.proofs.Courses.{delivers_so}
 use Rattle.session.proofs.record_reply.serve_call.Goals as goal
 
@@ -46,11 +46,13 @@ pub returns-in-Mount-clause-serves : goal.returns-in-Mount-clause-serves
 returns-in-Mount-clause-serves g c =
     let device = g.D.CrashDisk.device in
     let old = store_of (device c.args.store.now.disk) c.args.store.now.core c.args.store.now.boot in
-    let preserves = g.D.CrashDisk.keeps_model c.args.store.now.disk in
+    let after = c.serve_mount.new.store in
+    let new = store_of (device after.disk) after.core after.boot in
+    let preserves = g.D.CrashDisk.keeps_model after.disk in
     let xid = c.args.xid in
-    delivers_so (IsMountReply xid c.in-Mount.call)
+    delivers_so (λ (reply : List ℕ). IsMounted old xid c.in-Mount.call reply new)
     (λ (reply : List ℕ). IsCallAnswered preserves c.args.moment old xid c.args.credential c.args.call
-    reply old) _ _ _
+    reply new) _ _ _
     (λ reply is. subst
-    (λ (call : ProgramCall). IsCallAnswered preserves c.args.moment old xid c.args.credential call reply old)
-    (sym c.in-Mount.is) (refl, is)) c.serve_mount.ensures
+    (λ (call : ProgramCall). IsCallAnswered preserves c.args.moment old xid c.args.credential call reply new)
+    (sym c.in-Mount.is) is) c.serve_mount.ensures.serves

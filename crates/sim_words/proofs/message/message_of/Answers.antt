@@ -5,9 +5,9 @@ use Rattle.sim_words.specs.declared.message.Message.{Message}
 use Rattle.sim_words.proofs.Messages.{spelled}
 use Rattle.sim_words.proofs.message.message_of.Goals as goal
 
-pub returns-in-Call : goal.returns-in-Call
-returns-in-Call c =
+pub returns-in-Ok-Call : goal.returns-in-Ok-Call
+returns-in-Ok-Call c =
     subst (λ (read : Option Message). Gives (λ message. message) c.message_with.result read)
-    (sym (spelled c.args.bytes.now c.in-Call.xid c.in-Call.credential c.in-Call.call
+    (sym (spelled c.args.bytes.now c.in-Ok-Call.xid c.in-Ok-Call.credential c.in-Ok-Call.call
     (subst (λ (n : ℕ). n ≤ RECORD_BYTES) c.len.ensures.value c.if-len-gt-RECORD_BYTES.false)
-    c.in-Call.ensures)) c.message_with.ensures
+    (rw c.in-Ok-Call.field-0-is at c.in-Ok-Call.ensures))) c.message_with.ensures

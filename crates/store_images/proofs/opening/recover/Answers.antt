@@ -1,5 +1,5 @@
 -- At each stop of an opening the image has its tree.
-use Rattle.std.proofs.Common.{ap, ap₂, ℕ, arith, ◌≡◌, ◌+◌, ◌∙◌, refl, sym, inl, inr, length, subst}
+use Rattle.std.proofs.Common.{ap, ap₂, ℕ, arith, ◌≡◌, ◌+◌, ◌∙◌, refl, sym, inl, inr, length, subst, Err, rules, alloc_error}
 use Rattle.base.specs.declared.TheConstants.{BLOCK_BYTES}
 use Rattle.disk.specs.Device.{Device}
 use Rattle.layout.specs.declared.geometry.Geometry.{Geometry}
@@ -29,14 +29,16 @@ incremented_is : (found : Super) (geometry : Geometry) → geometry ≡ newest f
     → super_bytes (record { geometry = geometry; boot = found.boot + 1 }) ≡ super_bytes (next_super found)
 incremented_is found geometry is = ap (λ (g : Geometry). super_bytes (record { geometry = g; boot = found.boot + 1 })) is
 
-pub returns-in_default-clause-preserves : goal.returns-in_default-clause-preserves
-returns-in_default-clause-preserves g c = λ tree first holds is_preserved.
+pub returns-in_err-block-clause-preserves : goal.returns-in_err-block-clause-preserves
+returns-in_err-block-clause-preserves g c = λ tree first holds is_preserved.
     let before = g.D.CrashDisk.device c.args.disk.now in
-    read_refused before tree first holds (g.D.CrashDisk.keeps_model c.args.disk.now) fault.NoMemory before is_preserved
-    (g.met.D.CrashDisk.whole c.args.disk.now is_preserved) (no_read before) refl (past_none before)
+    let same : c.from_residual.result ≡ Err (fault.NoMemory alloc_error) = search rules in
+    rw same (read_refused before tree first holds (g.D.CrashDisk.keeps_model c.args.disk.now)
+    (fault.NoMemory alloc_error) before is_preserved (g.met.D.CrashDisk.whole c.args.disk.now is_preserved)
+    (no_read before) refl (past_none before))
 
-pub returns-in_default-clause-left : goal.returns-in_default-clause-left
-returns-in_default-clause-left g c = λ rest is_preserved. inl (no_read (g.D.CrashDisk.device c.args.disk.now))
+pub returns-in_err-block-clause-left : goal.returns-in_err-block-clause-left
+returns-in_err-block-clause-left g c = λ rest is_preserved. inl (no_read (g.D.CrashDisk.device c.args.disk.now))
 
 pub returns-in-Err-clause-left : goal.returns-in-Err-clause-left
 returns-in-Err-clause-left g c = λ rest is_preserved. inl c.in-Err.ensures.reads
@@ -45,14 +47,14 @@ pub returns-in-Err-install-clause-left : goal.returns-in-Err-install-clause-left
 returns-in-Err-install-clause-left g c = λ rest is_preserved.
     let before = g.D.CrashDisk.device c.args.disk.now in
     let now = g.D.CrashDisk.device c.find.new.disk in
-    let found = c.in-Ok-find.found.0 in
-    let log = c.in-Ok-find.found.1 in
+    let found = c.in-Ok.found.0 in
+    let log = c.in-Ok.found.1 in
     let model_now = c.install.ensures.model is_preserved in
-    let is = c.in-Ok-find.ensures.found model_now rest.certain in
+    let is = c.in-Ok.ensures.found model_now rest.certain in
     let brings = c.install.ensures.home before (super_bytes (next_super found))
     (subst (λ (log : Log). BringsHome before (super_bytes (next_super found)) now log)
     (sym (ap (λ (core : CoreState). core.log) c.new-core.ensures))
-    (begins before rest found log now (super_bytes (next_super found)) c.in-Ok-find.ensures.reads is
+    (begins before rest found log now (super_bytes (next_super found)) c.in-Ok.ensures.reads is
     c.lawful.ensures (g.met.D.CrashDisk.whole c.find.new.disk model_now))) in
     inr (found, is.is_super, brings.preserves)
 
@@ -60,16 +62,16 @@ pub returns-in-Err-increment-clause-left : goal.returns-in-Err-increment-clause-
 returns-in-Err-increment-clause-left g c = λ rest is_preserved.
     let before = g.D.CrashDisk.device c.args.disk.now in
     let now = g.D.CrashDisk.device c.find.new.disk in
-    let found = c.in-Ok-find.found.0 in
+    let found = c.in-Ok.found.0 in
     let log = c.install.new.core.log in
     let model_now = c.install.ensures.model (c.increment.ensures.model is_preserved) in
-    let is = c.in-Ok-find.ensures.found model_now rest.certain in
+    let is = c.in-Ok.ensures.found model_now rest.certain in
     let brings = c.install.ensures.home before (super_bytes (next_super found))
     (subst (λ (log : Log). BringsHome before (super_bytes (next_super found)) now log)
     (sym (ap (λ (core : CoreState). core.log) c.new-core.ensures))
-    (begins before rest found c.in-Ok-find.found.1 now (super_bytes (next_super found))
-    c.in-Ok-find.ensures.reads is c.lawful.ensures (g.met.D.CrashDisk.whole c.find.new.disk model_now))) in
-    let none = c.in_default-install.ensures.none in
+    (begins before rest found c.in-Ok.found.1 now (super_bytes (next_super found))
+    c.in-Ok.ensures.reads is c.lawful.ensures (g.met.D.CrashDisk.whole c.find.new.disk model_now))) in
+    let none = c.in_default.ensures.none in
     let empty = none_home log c.lawful-3.ensures.log none.0 c.install.ensures.quiet.installing none.1
     brings.coming.logged in
     let home = g.D.CrashDisk.device c.install.new.disk in
@@ -86,16 +88,16 @@ pub returns-clause-left : goal.returns-clause-left
 returns-clause-left g c = λ rest is_preserved.
     let before = g.D.CrashDisk.device c.args.disk.now in
     let now = g.D.CrashDisk.device c.find.new.disk in
-    let found = c.in-Ok-find.found.0 in
+    let found = c.in-Ok.found.0 in
     let log = c.install.new.core.log in
     let model_now = c.install.ensures.model (c.increment.ensures.model is_preserved) in
-    let is = c.in-Ok-find.ensures.found model_now rest.certain in
+    let is = c.in-Ok.ensures.found model_now rest.certain in
     let brings = c.install.ensures.home before (super_bytes (next_super found))
     (subst (λ (log : Log). BringsHome before (super_bytes (next_super found)) now log)
     (sym (ap (λ (core : CoreState). core.log) c.new-core.ensures))
-    (begins before rest found c.in-Ok-find.found.1 now (super_bytes (next_super found))
-    c.in-Ok-find.ensures.reads is c.lawful.ensures (g.met.D.CrashDisk.whole c.find.new.disk model_now))) in
-    let none = c.in_default-install.ensures.none in
+    (begins before rest found c.in-Ok.found.1 now (super_bytes (next_super found))
+    c.in-Ok.ensures.reads is c.lawful.ensures (g.met.D.CrashDisk.whole c.find.new.disk model_now))) in
+    let none = c.in_default.ensures.none in
     let empty = none_home log c.lawful-3.ensures.log none.0 c.install.ensures.quiet.installing none.1
     brings.coming.logged in
     let home = g.D.CrashDisk.device c.install.new.disk in
@@ -122,19 +124,19 @@ returns-in-Err-install-clause-preserves g c = λ tree first holds is_preserved.
     let before = g.D.CrashDisk.device c.args.disk.now in
     let now = g.D.CrashDisk.device c.find.new.disk in
     let later = g.D.CrashDisk.device c.install.new.disk in
-    let found = c.in-Ok-find.found.0 in
-    let log = c.in-Ok-find.found.1 in
+    let found = c.in-Ok.found.0 in
+    let log = c.in-Ok.found.1 in
     let model_now = c.install.ensures.model is_preserved in
-    let is = c.in-Ok-find.ensures.found model_now holds.rest.certain in
+    let is = c.in-Ok.ensures.found model_now holds.rest.certain in
     let brings = c.install.ensures.home before (super_bytes (next_super found))
     (subst (λ (log : Log). BringsHome before (super_bytes (next_super found)) now log)
     (sym (ap (λ (core : CoreState). core.log) c.new-core.ensures))
-    (begins before holds.rest found log now (super_bytes (next_super found)) c.in-Ok-find.ensures.reads is
+    (begins before holds.rest found log now (super_bytes (next_super found)) c.in-Ok.ensures.reads is
     c.lawful.ensures (g.met.D.CrashDisk.whole c.find.new.disk model_now))) in
     let failed = c.in-Err-install.ensures.failure in
-    let same = c.in-Ok-find.ensures.failure in
+    let same = c.in-Ok.ensures.failure in
     later_refused before tree first holds found (next_super found) (super_bytes (next_super found)) is.is_super refl refl
-    (c.a_super_block_is_its_bytes.ensures (next_super found) found.geometry.lawful c.in-Ok-find.ensures.boot)
+    (c.a_super_block_is_its_bytes.ensures (next_super found) found.geometry.lawful c.in-Ok.ensures.boot)
     (full (next_super found)) later c.in-Err-install.fault
     (g.met.D.CrashDisk.whole c.install.new.disk is_preserved) brings.preserves
     (subst (λ cause. IsCauseOf cause before later first) (sym failed.0) (omega (arith, failed.1, same)))
@@ -145,17 +147,17 @@ returns-in-Err-increment-clause-preserves g c = λ tree first holds is_preserved
     let now = g.D.CrashDisk.device c.find.new.disk in
     let home = g.D.CrashDisk.device c.install.new.disk in
     let later = g.D.CrashDisk.device c.increment.new.disk in
-    let found = c.in-Ok-find.found.0 in
+    let found = c.in-Ok.found.0 in
     let log = c.install.new.core.log in
     let model_now = c.install.ensures.model (c.increment.ensures.model is_preserved) in
-    let is = c.in-Ok-find.ensures.found model_now holds.rest.certain in
+    let is = c.in-Ok.ensures.found model_now holds.rest.certain in
     let brings = c.install.ensures.home before (super_bytes (next_super found))
     (subst (λ (log : Log). BringsHome before (super_bytes (next_super found)) now log)
     (sym (ap (λ (core : CoreState). core.log) c.new-core.ensures))
-    (begins before holds.rest found c.in-Ok-find.found.1 now (super_bytes (next_super found))
-    c.in-Ok-find.ensures.reads
+    (begins before holds.rest found c.in-Ok.found.1 now (super_bytes (next_super found))
+    c.in-Ok.ensures.reads
     is c.lawful.ensures (g.met.D.CrashDisk.whole c.find.new.disk model_now))) in
-    let none = c.in_default-install.ensures.none in
+    let none = c.in_default.ensures.none in
     let empty = none_home log c.lawful-3.ensures.log none.0 c.install.ensures.quiet.installing none.1
     brings.coming.logged in
     let same = incremented_is found c.newest-geometry.result c.newest-geometry.ensures.is in
@@ -163,14 +165,14 @@ returns-in-Err-increment-clause-preserves g c = λ tree first holds is_preserved
     (c.in-Err-increment.ensures.incremented before log c.lawful-3.ensures.log empty
     (subst (λ bytes. BringsHome before bytes home log) (sym same) brings)) in
     later_refused before tree first holds found (next_super found) (super_bytes (next_super found)) is.is_super refl refl
-    (c.a_super_block_is_its_bytes.ensures (next_super found) found.geometry.lawful c.in-Ok-find.ensures.boot)
+    (c.a_super_block_is_its_bytes.ensures (next_super found) found.geometry.lawful c.in-Ok.ensures.boot)
     (full (next_super found)) later c.in-Err-increment.fault (g.met.D.CrashDisk.whole c.increment.new.disk is_preserved) preserves
     (elim c.in-Err-increment.ensures.failure [
       | inl failed ↦ subst (λ cause. IsCauseOf cause before later first) (sym failed.0)
-          (omega (arith, failed.1, c.in_default-install.ensures.failure, c.in-Ok-find.ensures.failure))
+          (omega (arith, failed.1, c.in_default.ensures.failure, c.in-Ok.ensures.failure))
       | inr memory ↦ subst (λ cause. IsCauseOf cause before later first) (sym memory.0)
-          (ap (λ (d : Device). d.failures) memory.1 ∙ c.in_default-install.ensures.failure
-          ∙ c.in-Ok-find.ensures.failure)
+          (ap (λ (d : Device). d.failures) memory.1 ∙ c.in_default.ensures.failure
+          ∙ c.in-Ok.ensures.failure)
     ])
 
 pub returns-clause-preserves : goal.returns-clause-preserves
@@ -179,17 +181,17 @@ returns-clause-preserves g c = λ tree first holds is_preserved.
     let now = g.D.CrashDisk.device c.find.new.disk in
     let home = g.D.CrashDisk.device c.install.new.disk in
     let later = g.D.CrashDisk.device c.increment.new.disk in
-    let found = c.in-Ok-find.found.0 in
+    let found = c.in-Ok.found.0 in
     let log = c.install.new.core.log in
     let model_now = c.install.ensures.model (c.increment.ensures.model is_preserved) in
-    let is = c.in-Ok-find.ensures.found model_now holds.rest.certain in
+    let is = c.in-Ok.ensures.found model_now holds.rest.certain in
     let brings = c.install.ensures.home before (super_bytes (next_super found))
     (subst (λ (log : Log). BringsHome before (super_bytes (next_super found)) now log)
     (sym (ap (λ (core : CoreState). core.log) c.new-core.ensures))
-    (begins before holds.rest found c.in-Ok-find.found.1 now (super_bytes (next_super found))
-    c.in-Ok-find.ensures.reads
+    (begins before holds.rest found c.in-Ok.found.1 now (super_bytes (next_super found))
+    c.in-Ok.ensures.reads
     is c.lawful.ensures (g.met.D.CrashDisk.whole c.find.new.disk model_now))) in
-    let none = c.in_default-install.ensures.none in
+    let none = c.in_default.ensures.none in
     let empty = none_home log c.lawful-3.ensures.log none.0 c.install.ensures.quiet.installing none.1
     brings.coming.logged in
     let same = incremented_is found c.newest-geometry.result c.newest-geometry.ensures.is in
@@ -197,10 +199,10 @@ returns-clause-preserves g c = λ tree first holds is_preserved.
     (c.in_default-increment.ensures.incremented before log c.lawful-3.ensures.log empty
     (subst (λ bytes. BringsHome before bytes home log) (sym same) brings)) in
     let is_incremented = c.a_super_block_is_its_bytes.ensures (next_super found) found.geometry.lawful
-    c.in-Ok-find.ensures.boot in
+    c.in-Ok.ensures.boot in
     let blocks = g.met.D.CrashDisk.whole c.increment.new.disk is_preserved in
-    let clean = c.in_default-install.ensures.clean
-    (certain_then before now c.in-Ok-find.ensures.reads holds.rest.certain) in
+    let clean = c.in_default.ensures.clean
+    (certain_then before now c.in-Ok.ensures.reads holds.rest.certain) in
     let over = is_new before tree first holds found (next_super found) (super_bytes (next_super found))
     is.is_super refl refl
     is_incremented (full (next_super found)) home later log c.lawful-3.ensures.log empty increments blocks c.install.new.core
@@ -215,8 +217,8 @@ returns-clause-preserves g c = λ tree first holds is_preserved.
       log.start,
       is_opened before tree first holds found (next_super found) (super_bytes (next_super found)) is.is_super refl refl
           is_incremented (full (next_super found)) home later log c.lawful-3.ensures.log empty increments blocks
-          (c.in_default-increment.ensures.failure ∙ c.in_default-install.ensures.failure
-          ∙ c.in-Ok-find.ensures.failure),
+          (c.in_default-increment.ensures.failure ∙ c.in_default.ensures.failure
+          ∙ c.in-Ok.ensures.failure),
       over.0,
       over.1,
     )

@@ -24,7 +24,7 @@ module _ (size boot : ℕ) (image : Image) (tree : Tree) (good : IsGoodImage siz
       not_another size (image SUPER_BLOCK) good.super good.is_super good.size_is boot_left another
   shows_none fault.Log shown = shown.1 (good.range, good.homes)
   shows_none fault.Device shown = shown
-  shows_none fault.NoMemory shown = shown
+  shows_none (fault.NoMemory error) shown = shown
 
 pub returns : goal.returns
 returns c = shows_none

@@ -38,9 +38,9 @@ module _ (size : ℕ) (image : Image) (some : 0 < size) where
 
   one_cause : (one other : OpenFault) → IsShownBy one size image → IsShownBy other size image → one ≡ other
   one_cause fault.Device other a b = absurd a
-  one_cause fault.NoMemory other a b = absurd a
+  one_cause (fault.NoMemory error) other a b = absurd a
   one_cause one fault.Device a b = absurd b
-  one_cause one fault.NoMemory a b = absurd b
+  one_cause one (fault.NoMemory error) a b = absurd b
   one_cause fault.Magic fault.Magic a b = refl
   one_cause fault.Magic fault.Version a b = absurd (no_magic a b.0)
   one_cause fault.Magic fault.Range a b = absurd (no_magic a (range_magic b))

@@ -151,4 +151,5 @@ pub returns-clause-is_run_state : goal.returns-clause-is_run_state
 returns-clause-is_run_state c = λ before opened base core tree first o opens new. record {
   log = sym (log_state_is_empty before opened base core tree first o.position opens new);
   begun = sym new.begun;
+  refused = sym new.refused;
 }

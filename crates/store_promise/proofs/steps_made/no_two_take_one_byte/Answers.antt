@@ -1,4 +1,4 @@
-use Rattle.std.proofs.Common.{◌≡◌, ◌∙◌, ◌⊎◌, inl, inr, ℕ, subst, sym, true≢false}
+use Rattle.std.proofs.Common.{◌≡◌, ◌∙◌, ◌⊎◌, inl, inr, ℕ, subst, sym, true≢false, alloc_error}
 use Rattle.store_promise.specs.declared.events.LockAnswer.{LockAnswer}
 use Rattle.store_promise.specs.declared.events.LockAnswer.TheVariants as lock_answer
 use Rattle.store_promise.specs.Progress.{Begun, RangeRequest}
@@ -8,7 +8,7 @@ use Rattle.store_promise.proofs.steps_made.no_two_take_one_byte.Goals as goal
 
 -- what is answered so is left free by the others
 free_of : (run_state : RunState) (worker : ℕ) (begun : Begun) (request : RangeRequest) (answer : LockAnswer)
-    → (answer ≡ lock_answer.Held) ⊎ (answer ≡ lock_answer.Fetch) ⊎ (answer ≡ lock_answer.NoMemory) → IsLockAnswer run_state worker begun request answer
+    → (answer ≡ lock_answer.Held) ⊎ (answer ≡ lock_answer.Fetch) ⊎ (answer ≡ lock_answer.NoMemory alloc_error) → IsLockAnswer run_state worker begun request answer
     → IsLeftFree run_state worker request
 free_of run_state worker begun request answer (inl held) is = subst (IsLockAnswer run_state worker begun request) held is
 free_of run_state worker begun request answer (inr (inr refused)) is = subst (IsLockAnswer run_state worker begun request) refused is

@@ -38,7 +38,7 @@ module _ (o : Setting) (run_state : RunState) (later : ℕ → Image) where
   commits blocks committing.Foreign is = is
   commits blocks committing.Spent is = (is.0, λ has. is.1 (numbers_then blocks has))
   commits blocks committing.Full is = (is.0, numbers blocks is.1, is.2)
-  commits blocks committing.NoMemory is = (is.0, numbers blocks is.1, is.2)
+  commits blocks (committing.NoMemory error) is = (is.0, numbers blocks is.1, is.2)
 
   by_plan : (worker : ℕ) (begun : Begun) (made : Step)
       → IsStepByPlan o run_state worker begun made
@@ -48,7 +48,7 @@ module _ (o : Setting) (run_state : RunState) (later : ℕ → Image) where
   by_plan worker begun (step.Claimed block answer) is =
       (record { unclaimed = is.0.unclaimed; claims = is.0.claims }, is.1)
   by_plan worker begun (step.Commit blocks answer) is = (is.0, commits blocks answer is.1)
-  by_plan worker begun (step.Ended ending.NoMemory) is = is
+  by_plan worker begun (step.Ended (ending.NoMemory error)) is = is
   by_plan worker begun (step.Ended ending.Again) is = is
   by_plan worker begun (step.Ended ending.Refused) is = is
   by_plan worker begun step.Called is = is

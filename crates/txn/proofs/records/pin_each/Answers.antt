@@ -7,18 +7,18 @@ use Rattle.txn.specs.Pinned.{count_in}
 use Rattle.txn.proofs.Counted.{total_more, count_most}
 use Rattle.txn.proofs.records.pin_each.Goals as goal
 
-pub pin_again-requires-clause-has_space : goal.pin_again-requires-clause-has_space
-pin_again-requires-clause-has_space c =
+pub pin_again-requires-clause-countable : goal.pin_again-requires-clause-countable
+pin_again-requires-clause-countable c =
     let blocks : List BlockNo = c.args.blocks.now in
     let i = c.loop-block.block-index in
     let item : BlockNo = get_or blocks i (record { 0 = 0 }) in
     let lt : i < length blocks = c.loop-block-test.true in
-    let has_space : pins_of c.args.present.now item + length blocks < 2 ^ 64 =
+    let countable : pins_of c.args.present.now item + length blocks < 2 ^ 128 =
     c.requires.countable i (record { 0 = 0 }) lt in
     let most = count_most (take i blocks) item in
     let long = length-take-le i blocks (omega (arith, lt)) in
     let now = c.loop-block.invariant.0 item in
-    omega (arith, has_space, most, long, now, lt)
+    omega (arith, countable, most, long, now, lt)
 
 pub loop-block-preserved : goal.loop-block-preserved
 loop-block-preserved c =

@@ -1,4 +1,4 @@
-use Rattle.std.proofs.Common.{rules, ◌≡◌, ◌⊎◌, sym, subst, inl, inr, IfErr, Err}
+use Rattle.std.proofs.Common.{rules, ◌≡◌, ◌⊎◌, sym, subst, inl, inr, IfErr, Err, alloc_error}
 use Rattle.base.specs.declared.TheConstants.{SLOTS_PER_BLOCK}
 use Rattle.image_read.specs.declared.parts.fault.PartFault.TheVariants.{NoMemory, Range}
 use Rattle.image_read.specs.Files.Slots.{AreSlots}
@@ -12,7 +12,7 @@ pub returns-in_err-push_slot-clause-refused : goal.returns-in_err-push_slot-clau
 returns-in_err-push_slot-clause-refused c =
     let fault = c.in_err-push_slot.field-0.0 in
     let is : c.from_residual.result ≡ Err fault = search rules in
-    let refused : (fault ≡ NoMemory)
+    let refused : (fault ≡ NoMemory alloc_error)
     ⊎ ((fault ≡ Range) × (AreSlots c.args.inodes c.args.block.now SLOTS_PER_BLOCK → ⊥)) =
     elim c.in_err-push_slot.ensures.refused [
       | inl memory ↦ inl memory
@@ -22,7 +22,7 @@ returns-in_err-push_slot-clause-refused c =
             c.bytes_in.result.now c.places-test.true c.bytes_in.ensures.bytes refused.1,
       )
     ] in
-    subst (λ r. IfErr r (λ one. (one ≡ NoMemory)
+    subst (λ r. IfErr r (λ one. (one ≡ NoMemory alloc_error)
     ⊎ ((one ≡ Range) × (AreSlots c.args.inodes c.args.block.now SLOTS_PER_BLOCK → ⊥)))) (sym is) refused
 
 pub places-preserved : goal.places-preserved

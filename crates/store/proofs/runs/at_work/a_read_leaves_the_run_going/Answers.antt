@@ -5,7 +5,11 @@ pub returns-clause-core : goal.returns-clause-core
 returns-clause-core c = read_core
 
 pub returns-clause-state_stays_so : goal.returns-clause-state_stays_so
-returns-clause-state_stays_so c = λ o run_state number store after block ok is. record { log = is.log; begun = is.begun }
+returns-clause-state_stays_so c = λ o run_state number store after block ok is. record {
+  log = is.log;
+  begun = is.begun;
+  refused = is.refused;
+}
 
 pub returns-clause-runs : goal.returns-clause-runs
 returns-clause-runs c = λ o base store after ok io content old boot first last entries read brings contents run.

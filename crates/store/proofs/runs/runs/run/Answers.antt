@@ -14,12 +14,12 @@ use Rattle.store.proofs.RunsLemmas.WholeRun.{all_at_rest, first_going, gone_on, 
 use Rattle.store.proofs.runs.runs.run.Goals.{in-None, in-Some+then-not-take}
 use Rattle.store.proofs.runs.runs.run.Goals as goal
 
+pub returns-in-Err-open-clause-promised : goal.returns-in-Err-open-clause-promised
+returns-in-Err-open-clause-promised g c = λ tree first may.
+    c.in-Err-open.ensures.preserves tree first (record { rest = may.rest; good = may.good }) may.model
+
 pub returns-in-Err-clause-promised : goal.returns-in-Err-clause-promised
 returns-in-Err-clause-promised g c = λ tree first may.
-    c.in-Err.ensures.preserves tree first (record { rest = may.rest; good = may.good }) may.model
-
-pub returns-in_default-clause-promised : goal.returns-in_default-clause-promised
-returns-in_default-clause-promised g c = λ tree first may.
     refused_before (g.D.CrashDisk.keeps_model c.args.disk) (g.D.CrashDisk.device c.args.disk) tree first
     c.args.events.items (g.met.D.CrashDisk.whole c.args.disk may.model) may
 

@@ -17,8 +17,8 @@ use Rattle.procs.specs.Steps.{IsStepOf}
 use Rattle.store_images.proofs.ReplaysLemmas.Reading.{less_left, more_often, read_more, saw_then, written_home}
 use Rattle.store_images.proofs.replays.plans.plan_over.Goals as goal
 
-pub asks-smaller-in-Continue-1 : goal.asks-smaller-in-Continue-1
-asks-smaller-in-Continue-1 g c =
+pub asks-smaller-in-Continue-branch-2 : goal.asks-smaller-in-Continue-branch-2
+asks-smaller-in-Continue-branch-2 g c =
     let geometry : Geometry = c.args.geometry in
     let old : Snap = c.asks.snap in
     let reserved_snap : Snap = c.reserve_next.new.self in
@@ -39,8 +39,8 @@ asks-smaller-in-Continue-1 g c =
     c.in-Need.ensures.plan.1))
     (omega (arith, claims, few))
 
-pub asks-preserved-in-Continue-1 : goal.asks-preserved-in-Continue-1
-asks-preserved-in-Continue-1 g c =
+pub asks-preserved-in-Continue-branch-2 : goal.asks-preserved-in-Continue-branch-2
+asks-preserved-in-Continue-branch-2 g c =
     let geometry : Geometry = c.args.geometry in
     let first : Device = g.D.CrashDisk.device c.args.disk.now in
     let mid : Device = g.D.CrashDisk.device c.asks.disk in

@@ -9,10 +9,10 @@ returns-clause-saw g c = λ is_preserved clean.
     let before : Device = g.D.CrashDisk.device c.args.disk.now in
     saw_more before.size (image_of before) c.args.snap.now c.add.new.self c.args.addr c.args.mode c.read.new.out
     (record {
-      bytes = c.in-Ok.bytes;
+      bytes = c.in_ok-bytes.bytes;
       geometry = c.add.ensures.geometry;
       objects = c.add.ensures.objects;
       exclusives = c.add.ensures.exclusives;
       claims = c.add.ensures.claims;
     })
-    c.requires.home (c.in_default.ensures.newest is_preserved (clean c.args.addr.block.0)) c.in-Ok.ensures.bytes
+    c.requires.home (c.in_default.ensures.newest is_preserved (clean c.args.addr.block.0)) c.in_ok-bytes.ensures.bytes

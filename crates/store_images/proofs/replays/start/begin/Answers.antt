@@ -1,5 +1,5 @@
 -- What a beginning comes to: it is refused by what it has read, or all is at home.
-use Rattle.std.proofs.Common.{rules, ◌≡◌, ◌+◌, ◌∙◌, refl, sym, ap, subst, ℕ, All, Err, List}
+use Rattle.std.proofs.Common.{rules, ◌≡◌, ◌+◌, ◌∙◌, refl, sym, ap, subst, ℕ, All, Err, List, alloc_error}
 use Rattle.disk.specs.Device.{Content, Device}
 use Rattle.disk.specs.declared.block.BlockNo.{BlockNo}
 use Rattle.layout.specs.declared.geometry.Geometry.{Geometry}
@@ -9,6 +9,7 @@ use Rattle.circ.specs.Log.Log.{IsHomeOn, blocks_of}
 use Rattle.circ.specs.Log.Recovery.{image_of}
 use Rattle.circ.proofs.LogLemmas.OnlyRead.{reads_then, certain_then}
 use Rattle.store_promise.proofs.Later.{past_more, read_later}
+use Rattle.store_promise.specs.declared.fault.OpenFault.TheVariants as fault
 use Rattle.store_images.specs.BringingHome.{next_super}
 use Rattle.store_images.proofs.Opens.{read_refused}
 use Rattle.store_images.specs.Replays.AtHome.{HoldsAtHome}
@@ -50,18 +51,20 @@ returns-in_err-logged-clause-begun g c = λ tree first holds is_preserved.
     c.in_err-logged.field-0.0 c.in_err-logged.ensures.refused c.in_err-logged.ensures.failure tree first holds
     is_preserved (g.met.D.CrashDisk.whole c.find_log.new.disk is_preserved))
 
-pub returns-in_default-clause-begun : goal.returns-in_default-clause-begun
-returns-in_default-clause-begun g c = λ tree first holds is_preserved.
+pub returns-in_err-bytes-clause-begun : goal.returns-in_err-bytes-clause-begun
+returns-in_err-bytes-clause-begun g c = λ tree first holds is_preserved.
     let before : Device = g.D.CrashDisk.device c.args.disk.now in
     let mid : Device = g.D.CrashDisk.device c.read_super.new.disk in
-    let later : Device = g.D.CrashDisk.device c.find_log.new.disk in (
+    let later : Device = g.D.CrashDisk.device c.find_log.new.disk in
+    let same : c.from_residual-in_err-bytes.result ≡ Err (fault.NoMemory alloc_error) = search rules in
+    rw same (
       c.in_ok-logged.ensures.failure ∙ c.in_ok-found.ensures.failure,
       tree_then before later tree first
           (reads_then before mid later c.in_ok-found.ensures.reads c.find_log.ensures.reads) holds,
     )
 
-pub returns-in-Ok-begin_home-clause-answered : goal.returns-in-Ok-begin_home-clause-answered
-returns-in-Ok-begin_home-clause-answered g c =
+pub returns-in-Ok-clause-answered : goal.returns-in-Ok-clause-answered
+returns-in-Ok-clause-answered g c =
     let before : Device = g.D.CrashDisk.device c.args.disk.now in
     let mid : Device = g.D.CrashDisk.device c.read_super.new.disk in
     let now : Device = g.D.CrashDisk.device c.find_log.new.disk in
@@ -70,7 +73,7 @@ returns-in-Ok-begin_home-clause-answered g c =
       past_more before now later
           (read_later before now (reads_then before mid now super.reads c.find_log.ensures.reads))
           c.begin_home.ensures.later,
-      c.in-Ok-begin_home.ensures.failure ∙ c.in_ok-logged.ensures.failure ∙ super.failure,
+      c.in-Ok.ensures.failure ∙ c.in_ok-logged.ensures.failure ∙ super.failure,
       λ is_preserved clean.
           shows_nothing (g.D.CrashDisk.keeps_model c.find_log.new.disk) before mid now c.in_ok-found.found
           super.reads c.find_log.ensures.reads super.blocks super.boot
@@ -79,8 +82,8 @@ returns-in-Ok-begin_home-clause-answered g c =
           (λ is_preserved clean. c.in_ok-logged.ensures.found is_preserved clean) (c.begin_home.ensures.model is_preserved) clean,
     )
 
-pub returns-in-Ok-begin_home-clause-begun : goal.returns-in-Ok-begin_home-clause-begun
-returns-in-Ok-begin_home-clause-begun g c = λ tree first holds is_preserved.
+pub returns-in-Ok-clause-begun : goal.returns-in-Ok-clause-begun
+returns-in-Ok-clause-begun g c = λ tree first holds is_preserved.
     let before : Device = g.D.CrashDisk.device c.args.disk.now in
     let mid : Device = g.D.CrashDisk.device c.read_super.new.disk in
     let now : Device = g.D.CrashDisk.device c.find_log.new.disk in
@@ -94,11 +97,11 @@ returns-in-Ok-begin_home-clause-begun g c = λ tree first holds is_preserved.
     let model_mid = c.find_log.ensures.model model_now in
     let came : HasComeHome now later (with_log_home (image_of now) logged end (super_bytes incremented)) =
     subst (λ (bytes : Content). HasComeHome now later (with_log_home (image_of now) logged end bytes))
-    (c.deref-2.ensures.value ∙ c.in-Ok.ensures.bytes
+    (c.deref-2.ensures.value ∙ c.in_ok-bytes.ensures.bytes
     ∙ ap (λ (g : Geometry). super_bytes (record { geometry = g; boot = found.boot + 1 })) c.newest-geometry.ensures.is)
     (subst (λ (xs : List (BlockNo × Content)). HasComeHome now later
     (with_log_home (image_of now) xs end c.deref-2.result.now))
-    c.deref.ensures.value c.in-Ok-begin_home.ensures.home) in
+    c.deref.ensures.value c.in-Ok.ensures.home) in
     subst (λ (g : Geometry). HoldsAtHome g later tree (first + 1)) (sym c.newest-geometry.ensures.is)
     (begins_at_home before mid now later tree first holds super.reads c.find_log.ensures.reads found incremented
     (super_bytes incremented) logged end (super.found model_mid holds.rest.certain) super.blocks refl refl

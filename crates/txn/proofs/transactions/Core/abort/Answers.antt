@@ -17,7 +17,8 @@ pub invariant_of-self : goal.invariant_of-self
 invariant_of-self g c =
     let core = c.self.inside in
     let old : CoreState = core_of core.log core.inodes core.begun core.out.items core.holds core.present.blocks
-    core.records.items core.boot (length core.log_calls.items) (length core.inst_calls.items) in
+    core.records.items core.boot (length core.log_calls.items) (length core.inst_calls.items)
+    (length core.refused.items) in
     let (spare, is) = ended_there old c.tx.inside.number core.present c.end.new.present c.end.new.out.items
     c.end.new.holds refl c.self.invariant.0 c.end.ensures.out c.end.ensures.holds c.end.ensures.pins in (
       subst (λ (holds : List Hold). IsConsistent core.log holds core.records.items c.end.new.present)
@@ -33,7 +34,8 @@ pub returns-clause-leaves : goal.returns-clause-leaves
 returns-clause-leaves g c =
     let core = c.self.inside in
     let old : CoreState = core_of core.log core.inodes core.begun core.out.items core.holds core.present.blocks
-    core.records.items core.boot (length core.log_calls.items) (length core.inst_calls.items) in
+    core.records.items core.boot (length core.log_calls.items) (length core.inst_calls.items)
+    (length core.refused.items) in
     let (spare, is) = ended_there old c.tx.inside.number core.present c.end.new.present c.end.new.out.items
     c.end.new.holds refl c.self.invariant.0 c.end.ensures.out c.end.ensures.holds c.end.ensures.pins in
     let new : CoreState = record old {
@@ -52,7 +54,8 @@ pub returns-clause-stays : goal.returns-clause-stays
 returns-clause-stays g c = λ other differ.
     let core = c.self.inside in
     let old : CoreState = core_of core.log core.inodes core.begun core.out.items core.holds core.present.blocks
-    core.records.items core.boot (length core.log_calls.items) (length core.inst_calls.items) in
+    core.records.items core.boot (length core.log_calls.items) (length core.inst_calls.items)
+    (length core.refused.items) in
     let (spare, is) = ended_there old c.tx.inside.number core.present c.end.new.present c.end.new.out.items
     c.end.new.holds refl c.self.invariant.0 c.end.ensures.out c.end.ensures.holds c.end.ensures.pins in
     let new : CoreState = record old {
@@ -68,7 +71,8 @@ pub returns-clause-preserves : goal.returns-clause-preserves
 returns-clause-preserves g c =
     let core = c.self.inside in
     let old : CoreState = core_of core.log core.inodes core.begun core.out.items core.holds core.present.blocks
-    core.records.items core.boot (length core.log_calls.items) (length core.inst_calls.items) in
+    core.records.items core.boot (length core.log_calls.items) (length core.inst_calls.items)
+    (length core.refused.items) in
     let (spare, is) = ended_there old c.tx.inside.number core.present c.end.new.present c.end.new.out.items
     c.end.new.holds refl c.self.invariant.0 c.end.ensures.out c.end.ensures.holds c.end.ensures.pins in
     let new : CoreState = record old {

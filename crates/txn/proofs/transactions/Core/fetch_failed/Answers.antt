@@ -18,7 +18,8 @@ pub invariant_of-self : goal.invariant_of-self
 invariant_of-self g c =
     let core = c.self.inside in
     let old : CoreState = core_of core.log core.inodes core.begun core.out.items core.holds core.present.blocks
-    core.records.items core.boot (length core.log_calls.items) (length core.inst_calls.items) in
+    core.records.items core.boot (length core.log_calls.items) (length core.inst_calls.items)
+    (length core.refused.items) in
     let new : CoreState = record old { present = c.fetch_failed.new.self.blocks } in
     let is : new ≡ fetch_failed old c.args.io.block =
     ap (λ (r : Residents). record old { present = r.blocks }) c.fetch_failed.ensures
@@ -36,7 +37,8 @@ pub returns-clause-preserves : goal.returns-clause-preserves
 returns-clause-preserves g c =
     let core = c.self.inside in
     let old : CoreState = core_of core.log core.inodes core.begun core.out.items core.holds core.present.blocks
-    core.records.items core.boot (length core.log_calls.items) (length core.inst_calls.items) in
+    core.records.items core.boot (length core.log_calls.items) (length core.inst_calls.items)
+    (length core.refused.items) in
     let new : CoreState = record old { present = c.fetch_failed.new.self.blocks } in
     let is : new ≡ fetch_failed old c.args.io.block =
     ap (λ (r : Residents). record old { present = r.blocks }) c.fetch_failed.ensures
@@ -48,7 +50,8 @@ pub returns-clause-stays : goal.returns-clause-stays
 returns-clause-stays g c = λ other.
     let core = c.self.inside in
     let old : CoreState = core_of core.log core.inodes core.begun core.out.items core.holds core.present.blocks
-    core.records.items core.boot (length core.log_calls.items) (length core.inst_calls.items) in
+    core.records.items core.boot (length core.log_calls.items) (length core.inst_calls.items)
+    (length core.refused.items) in
     let new : CoreState = record old { present = c.fetch_failed.new.self.blocks } in
     let is : new ≡ fetch_failed old c.args.io.block =
     ap (λ (r : Residents). record old { present = r.blocks }) c.fetch_failed.ensures
@@ -60,7 +63,8 @@ pub returns-clause-leaves : goal.returns-clause-leaves
 returns-clause-leaves g c =
     let core = c.self.inside in
     let old : CoreState = core_of core.log core.inodes core.begun core.out.items core.holds core.present.blocks
-    core.records.items core.boot (length core.log_calls.items) (length core.inst_calls.items) in
+    core.records.items core.boot (length core.log_calls.items) (length core.inst_calls.items)
+    (length core.refused.items) in
     let new : CoreState = record old { present = c.fetch_failed.new.self.blocks } in
     let is : new ≡ fetch_failed old c.args.io.block =
     ap (λ (r : Residents). record old { present = r.blocks }) c.fetch_failed.ensures

@@ -27,7 +27,8 @@ pub invariant_of-self : goal.invariant_of-self
 invariant_of-self g c =
     let core = c.self.inside in
     let old : CoreState = core_of core.log core.inodes core.begun core.out.items core.holds core.present.blocks
-    core.records.items core.boot (length core.log_calls.items) (length core.inst_calls.items) in
+    core.records.items core.boot (length core.log_calls.items) (length core.inst_calls.items)
+    (length core.refused.items) in
     let records : List Footprint = core.records.items in
     let there : Residents = core.present in
     let spare : Present → Bool = c.fetched.ensures.0 in
@@ -51,7 +52,8 @@ pub returns-clause-preserves : goal.returns-clause-preserves
 returns-clause-preserves g c =
     let core = c.self.inside in
     let old : CoreState = core_of core.log core.inodes core.begun core.out.items core.holds core.present.blocks
-    core.records.items core.boot (length core.log_calls.items) (length core.inst_calls.items) in
+    core.records.items core.boot (length core.log_calls.items) (length core.inst_calls.items)
+    (length core.refused.items) in
     let records : List Footprint = core.records.items in
     let there : Residents = core.present in
     let spare : Present → Bool = c.fetched.ensures.0 in
@@ -71,7 +73,8 @@ pub returns-clause-stays : goal.returns-clause-stays
 returns-clause-stays g c = λ other.
     let core = c.self.inside in
     let old : CoreState = core_of core.log core.inodes core.begun core.out.items core.holds core.present.blocks
-    core.records.items core.boot (length core.log_calls.items) (length core.inst_calls.items) in
+    core.records.items core.boot (length core.log_calls.items) (length core.inst_calls.items)
+    (length core.refused.items) in
     let records : List Footprint = core.records.items in
     let there : Residents = core.present in
     let spare : Present → Bool = c.fetched.ensures.0 in
@@ -90,7 +93,8 @@ pub returns-clause-leaves : goal.returns-clause-leaves
 returns-clause-leaves g c =
     let core = c.self.inside in
     let old : CoreState = core_of core.log core.inodes core.begun core.out.items core.holds core.present.blocks
-    core.records.items core.boot (length core.log_calls.items) (length core.inst_calls.items) in
+    core.records.items core.boot (length core.log_calls.items) (length core.inst_calls.items)
+    (length core.refused.items) in
     let records : List Footprint = core.records.items in
     let there : Residents = core.present in
     let spare : Present → Bool = c.fetched.ensures.0 in
@@ -109,7 +113,8 @@ pub returns-clause-brings : goal.returns-clause-brings
 returns-clause-brings g c =
     let core = c.self.inside in
     let old : CoreState = core_of core.log core.inodes core.begun core.out.items core.holds core.present.blocks
-    core.records.items core.boot (length core.log_calls.items) (length core.inst_calls.items) in
+    core.records.items core.boot (length core.log_calls.items) (length core.inst_calls.items)
+    (length core.refused.items) in
     subst (λ (before : CoreState). (d : Device) (base : Image) (logging installing : Pending)
     → AgreesWithPending d base before.log logging installing → IsReadable d before.log installing → HasContents d
     → c.args.io.content ≡ newest_content (current d c.args.io.block.0) → IsPending before c.args.io.block

@@ -16,7 +16,8 @@ pub invariant_of-self-2 : goal.invariant_of-self-2
 invariant_of-self-2 g c =
     let core = c.self.inside in
     let old : CoreState = core_of core.log core.inodes core.begun core.out.items core.holds core.present.blocks
-    core.records.items core.boot (length core.log_calls.items) (length core.inst_calls.items) in
+    core.records.items core.boot (length core.log_calls.items) (length core.inst_calls.items)
+    (length core.refused.items) in
     let log : Log = c.next.new.self in
     let out : log ≡ with_out c.args.role core.log = search rules in
     let call : CoreState = with_call c.args.role old in
@@ -43,7 +44,8 @@ pub returns-clause-some : goal.returns-clause-some
 returns-clause-some g c = λ some.
     let core = c.self.inside in
     let old : CoreState = core_of core.log core.inodes core.begun core.out.items core.holds core.present.blocks
-    core.records.items core.boot (length core.log_calls.items) (length core.inst_calls.items) in
+    core.records.items core.boot (length core.log_calls.items) (length core.inst_calls.items)
+    (length core.refused.items) in
     let log : Log = c.next.new.self in
     let out : log ≡ with_out c.args.role core.log = search rules in
     let new : CoreState = record old {
@@ -60,7 +62,8 @@ pub returns-clause-preserves : goal.returns-clause-preserves
 returns-clause-preserves g c =
     let core = c.self.inside in
     let old : CoreState = core_of core.log core.inodes core.begun core.out.items core.holds core.present.blocks
-    core.records.items core.boot (length core.log_calls.items) (length core.inst_calls.items) in
+    core.records.items core.boot (length core.log_calls.items) (length core.inst_calls.items)
+    (length core.refused.items) in
     let log : Log = c.next.new.self in
     let out : log ≡ with_out c.args.role core.log = search rules in
     let new : CoreState = record old {

@@ -21,7 +21,8 @@ pub invariant_of-self : goal.invariant_of-self
 invariant_of-self g c =
     let core = c.self.inside in
     let old : CoreState = core_of core.log core.inodes core.begun core.out.items core.holds core.present.blocks
-    core.records.items core.boot (length core.log_calls.items) (length core.inst_calls.items) in
+    core.records.items core.boot (length core.log_calls.items) (length core.inst_calls.items)
+    (length core.refused.items) in
     let log : Log = c.done.new.self in
     let le : installed_place log ≤ installed_place core.log =
     let at = c.is_at_most.ensures.0 c.if-is_at_most.true in
@@ -47,7 +48,8 @@ pub returns-then-is_at_most-clause-others : goal.returns-then-is_at_most-clause-
 returns-then-is_at_most-clause-others g c =
     let core = c.self.inside in
     let old : CoreState = core_of core.log core.inodes core.begun core.out.items core.holds core.present.blocks
-    core.records.items core.boot (length core.log_calls.items) (length core.inst_calls.items) in
+    core.records.items core.boot (length core.log_calls.items) (length core.inst_calls.items)
+    (length core.refused.items) in
     let log : Log = c.done.new.self in
     let le : installed_place log ≤ installed_place core.log =
     let at = c.is_at_most.ensures.0 c.if-is_at_most.true in
@@ -82,7 +84,8 @@ pub invariant_of-self-2 : goal.invariant_of-self-2
 invariant_of-self-2 g c =
     let core = c.self.inside in
     let old : CoreState = core_of core.log core.inodes core.begun core.out.items core.holds core.present.blocks
-    core.records.items core.boot (length core.log_calls.items) (length core.inst_calls.items) in
+    core.records.items core.boot (length core.log_calls.items) (length core.inst_calls.items)
+    (length core.refused.items) in
     let log : Log = c.done.new.self in
     let before : List Footprint = core.records.items in
     let there : Residents = core.present in
@@ -120,7 +123,8 @@ pub returns-clause-others : goal.returns-clause-others
 returns-clause-others g c =
     let core = c.self.inside in
     let old : CoreState = core_of core.log core.inodes core.begun core.out.items core.holds core.present.blocks
-    core.records.items core.boot (length core.log_calls.items) (length core.inst_calls.items) in
+    core.records.items core.boot (length core.log_calls.items) (length core.inst_calls.items)
+    (length core.refused.items) in
     let log : Log = c.done.new.self in
     let before : List Footprint = core.records.items in
     let there : Residents = core.present in

@@ -21,7 +21,8 @@ pub invariant_of-self-in-Some : goal.invariant_of-self-in-Some
 invariant_of-self-in-Some g c =
     let core = c.self.inside in
     let old : CoreState = core_of core.log core.inodes core.begun core.out.items core.holds core.present.blocks
-    core.records.items core.boot (length core.log_calls.items) (length core.inst_calls.items) in
+    core.records.items core.boot (length core.log_calls.items) (length core.inst_calls.items)
+    (length core.refused.items) in
     let open' : IsOpen old c.args.transaction c.args.addr c.args.mode =
     subst (λ (before : CoreState). IsOpen before c.args.transaction c.args.addr c.args.mode) (sym (c.self.view_is ∙ c.bytes_at.ensures.same))
     c.requires in

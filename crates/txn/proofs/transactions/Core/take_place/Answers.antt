@@ -22,6 +22,7 @@ use Rattle.txn.specs.Exactly.{TakesPlaceExactly}
 use Rattle.txn.proofs.Answered.{log_counts}
 use Rattle.txn.proofs.Ended.{ended_there}
 use Rattle.txn.proofs.Counted.{held_pinned, read_is_held}
+use Rattle.txn.proofs.FewPins.{are_countable}
 use Rattle.txn.proofs.ByParts.{committed_is}
 use Rattle.txn.proofs.Logged.{quiet_in, refreshed_is}
 use Rattle.txn.proofs.Consistent.{consistent_ended, consistent_with}
@@ -51,11 +52,12 @@ keep-requires-clause-pinned g c =
       boot = core.boot;
       log_calls = length core.log_calls.items;
       inst_calls = length core.inst_calls.items;
+      refused = length core.refused.items;
     } in
     let own : IsOwn seen c.args.tx plan =
     subst (λ (old : CoreState). IsOwn old c.args.tx plan) (sym c.self.view_is) c.requires.own in
     subst (λ (kept : Footprint). All (λ block. 0 < pins_of there block) (block_of_each kept.read))
-    (sym c.of-kept.ensures)
+    (sym c.of-kept.ensures.is)
     (All-map (λ (block : BlockNo). 0 < pins_of there block) (λ (object : ObjectBytes). object.addr.block) plan.read
     (All-weaker (IsReadBy seen c.args.tx) (λ (object : ObjectBytes). 0 < pins_of there object.addr.block)
     (λ object read.
@@ -69,11 +71,10 @@ pub keep-requires-clause-countable : goal.keep-requires-clause-countable
 keep-requires-clause-countable g c =
     let core = c.self.inside in
     let plan : Planned = g.C.Change.planned c.args.change in
-    subst (λ (kept : Footprint). AreCountable c.refresh.new.present (block_of_each kept.read)) (sym c.of-kept.ensures)
+    subst (λ (kept : Footprint). AreCountable c.refresh.new.present (block_of_each kept.read)) (sym c.of-kept.ensures.is)
     (subst (λ (r : Residents). AreCountable r (block_of_each plan.read)) (sym c.refresh.ensures)
-    (subst (λ (blocks : List BlockNo). AreCountable core.present blocks)
-    (c.as_slice.ensures.value ∙ c.in-Ok.ensures ∙ ap block_of_each c.read.ensures)
-    (c.can_pin_each.ensures.0 c.if-not-can_pin_each.false)))
+    (are_countable core.present plan.read c.of-kept.ensures.few (λ at.
+    let few = c.can_count_pins.ensures at in let counted = c.self.invariant.0.counted at in omega (arith, few, counted))))
 
 -- the records with that of a change that was committed
 with_preserved : (log : Log) (plan : Planned) (installed place : ℕ) (before after : List Footprint) (kept : Footprint)
@@ -95,7 +96,7 @@ invariant_of-self-in-Appended g c =
     let records : List Footprint = c.keep.new.records.items in
     let kept : records ≡ with_record log log.places plan before =
     with_preserved log plan c.installed-installed.result.0 c.places-place.result.0 before records
-    c.of-kept.result c.installed-installed.ensures c.places-place.ensures c.of-kept.ensures
+    c.of-kept.result c.installed-installed.ensures c.places-place.ensures c.of-kept.ensures.is
     (c.keep.ensures.records ∙ ap (λ (rs : List Footprint). if nat_lt c.installed-installed.result.0
     c.of-kept.result.place then rs ++ c.of-kept.result ∷ [] else rs) c.reserve.ensures.items) in
     let group : List (BlockNo × Content) = c.in-Ok-group_of.group.items in
@@ -104,13 +105,14 @@ invariant_of-self-in-Appended g c =
     let there : Residents = c.keep.new.present in
     let left : Residents = c.end.new.present in
     let seen : CoreState = core_of core.log core.inodes core.begun core.out.items core.holds old.blocks before
-    core.boot (length core.log_calls.items) (length core.inst_calls.items) in
+    core.boot (length core.log_calls.items) (length core.inst_calls.items)
+    (length core.refused.items) in
     let own : IsOwn seen c.args.tx plan =
     subst (λ (old : CoreState). IsOwn old c.args.tx plan) (sym c.self.view_is) c.requires.own in
     let is : there.blocks ≡ refreshed log old.blocks =
     c.keep.ensures.pins.1 ∙ ap (λ (r : Residents). r.blocks) c.refresh.ensures
     ∙ ap (renewed_each old.blocks)
-    (c.in-Ok-pointers_to.ensures ∙ c.as_slice-2.ensures.value)
+    (c.in-Ok-pointers_to.ensures ∙ c.as_slice.ensures.value)
     ∙ refreshed_is core.log log group appended old.blocks c.self.invariant.0.logged in
     let pins : (at : BlockNo) → pins_of there at ≡ pins_of old at
     + (if nat_lt (installed_place log) log.places then objects_in plan.read at else 0) =
@@ -118,7 +120,7 @@ invariant_of-self-in-Appended g c =
     ∙ ap (λ (r : Residents). pins_of r at + (if nat_lt c.installed-installed.result.0 c.of-kept.result.place
     then objects_in c.of-kept.result.read at else 0)) c.refresh.ensures
     ∙ ap (λ (one : Footprint). pins_of old at + (if nat_lt c.installed-installed.result.0 one.place
-    then objects_in one.read at else 0)) c.of-kept.ensures
+    then objects_in one.read at else 0)) c.of-kept.ensures.is
     ∙ ap (λ (n : ℕ). pins_of old at + (if nat_lt n c.places-place.result.0
     then objects_in plan.read at else 0)) c.installed-installed.ensures
     ∙ ap (λ (n : ℕ). pins_of old at + (if nat_lt (installed_place log) n
@@ -127,7 +129,7 @@ invariant_of-self-in-Appended g c =
     subst (λ (rs : List Footprint). IsConsistent log core.holds rs there) (sym kept)
     (consistent_with core.log log group plan before appended core.holds old there
     (quiet_in seen c.args.tx plan group own (c.in-Ok-group_of.ensures.blocks ∙ c.requires.blocks)
-    c.lawful.ensures) pins is c.self.invariant.0) in
+    c.lawful.ensures) c.of-kept.ensures.few pins is c.self.invariant.0) in
     let (spare, at_end) = ended_there (record seen { log = log; present = there.blocks; records = records })
     c.tx.inside.number there left c.end.new.out.items c.end.new.holds refl consistent c.end.ensures.out
     c.end.ensures.holds c.end.ensures.pins in
@@ -161,8 +163,8 @@ invariant_of-self-in-Appended g c =
       log_counts g.C.Change.are_counts seen new still.blocks refl c.self.invariant.2,
     )
 
-pub returns-in-Appended-clause-answer : goal.returns-in-Appended-clause-answer
-returns-in-Appended-clause-answer g c =
+pub returns-in-Appended-clause-taken : goal.returns-in-Appended-clause-taken
+returns-in-Appended-clause-taken g c =
     let core = c.self.inside in
     let log : Log = c.append.new.self in
     let plan : Planned = g.C.Change.planned c.args.change in
@@ -170,7 +172,7 @@ returns-in-Appended-clause-answer g c =
     let records : List Footprint = c.keep.new.records.items in
     let kept : records ≡ with_record log log.places plan before =
     with_preserved log plan c.installed-installed.result.0 c.places-place.result.0 before records
-    c.of-kept.result c.installed-installed.ensures c.places-place.ensures c.of-kept.ensures
+    c.of-kept.result c.installed-installed.ensures c.places-place.ensures c.of-kept.ensures.is
     (c.keep.ensures.records ∙ ap (λ (rs : List Footprint). if nat_lt c.installed-installed.result.0
     c.of-kept.result.place then rs ++ c.of-kept.result ∷ [] else rs) c.reserve.ensures.items) in
     let group : List (BlockNo × Content) = c.in-Ok-group_of.group.items in
@@ -179,13 +181,14 @@ returns-in-Appended-clause-answer g c =
     let there : Residents = c.keep.new.present in
     let left : Residents = c.end.new.present in
     let seen : CoreState = core_of core.log core.inodes core.begun core.out.items core.holds old.blocks before
-    core.boot (length core.log_calls.items) (length core.inst_calls.items) in
+    core.boot (length core.log_calls.items) (length core.inst_calls.items)
+    (length core.refused.items) in
     let own : IsOwn seen c.args.tx plan =
     subst (λ (old : CoreState). IsOwn old c.args.tx plan) (sym c.self.view_is) c.requires.own in
     let is : there.blocks ≡ refreshed log old.blocks =
     c.keep.ensures.pins.1 ∙ ap (λ (r : Residents). r.blocks) c.refresh.ensures
     ∙ ap (renewed_each old.blocks)
-    (c.in-Ok-pointers_to.ensures ∙ c.as_slice-2.ensures.value)
+    (c.in-Ok-pointers_to.ensures ∙ c.as_slice.ensures.value)
     ∙ refreshed_is core.log log group appended old.blocks c.self.invariant.0.logged in
     let pins : (at : BlockNo) → pins_of there at ≡ pins_of old at
     + (if nat_lt (installed_place log) log.places then objects_in plan.read at else 0) =
@@ -193,7 +196,7 @@ returns-in-Appended-clause-answer g c =
     ∙ ap (λ (r : Residents). pins_of r at + (if nat_lt c.installed-installed.result.0 c.of-kept.result.place
     then objects_in c.of-kept.result.read at else 0)) c.refresh.ensures
     ∙ ap (λ (one : Footprint). pins_of old at + (if nat_lt c.installed-installed.result.0 one.place
-    then objects_in one.read at else 0)) c.of-kept.ensures
+    then objects_in one.read at else 0)) c.of-kept.ensures.is
     ∙ ap (λ (n : ℕ). pins_of old at + (if nat_lt n c.places-place.result.0
     then objects_in plan.read at else 0)) c.installed-installed.ensures
     ∙ ap (λ (n : ℕ). pins_of old at + (if nat_lt (installed_place log) n
@@ -202,7 +205,7 @@ returns-in-Appended-clause-answer g c =
     subst (λ (rs : List Footprint). IsConsistent log core.holds rs there) (sym kept)
     (consistent_with core.log log group plan before appended core.holds old there
     (quiet_in seen c.args.tx plan group own (c.in-Ok-group_of.ensures.blocks ∙ c.requires.blocks)
-    c.lawful.ensures) pins is c.self.invariant.0) in
+    c.lawful.ensures) c.of-kept.ensures.few pins is c.self.invariant.0) in
     let (spare, at_end) = ended_there (record seen { log = log; present = there.blocks; records = records })
     c.tx.inside.number there left c.end.new.out.items c.end.new.holds refl consistent c.end.ensures.out
     c.end.ensures.holds c.end.ensures.pins in

@@ -39,7 +39,8 @@ invariant_of-self-in-Err g c =
     λ at. let more = c.in_ok-bring.ensures.pinned at in let less = c.take_back.ensures.pins at in
     omega (arith, more, less) in
     let seen : CoreState = core_of core.log core.inodes core.begun core.out.items core.holds old.blocks
-    records core.boot (length core.log_calls.items) (length core.inst_calls.items) in (
+    records core.boot (length core.log_calls.items) (length core.inst_calls.items)
+    (length core.refused.items) in (
       subst (λ (holds : List Hold). IsConsistent core.log holds records new) (sym c.in-Err.ensures.refused)
           (consistent_stay core.log core.holds records old new stay back c.self.invariant.0),
       subst (λ (holds : List Hold). IsLawfulCore (OfSome g.C.Change.is_plan)
@@ -73,6 +74,7 @@ returns-in-Err-clause-refused g c =
       boot = core.boot;
       log_calls = length core.log_calls.items;
       inst_calls = length core.inst_calls.items;
+      refused = length core.refused.items;
     } in
     ap (λ (holds : List Hold). seen holds new.blocks) c.in-Err.ensures.refused
     ∙ ap (λ (present : List Present). seen core.holds present) back ∙ c.self.view_is
@@ -120,7 +122,8 @@ invariant_of-self-2 g c =
     let blocks : new.blocks ≡ with_block old.blocks c.args.hold.addr.block c.args.content =
     c.settle.ensures.blocks ∙ c.in_ok-bring.ensures.blocks in
     let seen : CoreState = core_of core.log core.inodes core.begun core.out.items core.holds old.blocks
-    records core.boot (length core.log_calls.items) (length core.inst_calls.items) in
+    records core.boot (length core.log_calls.items) (length core.inst_calls.items)
+    (length core.refused.items) in
     let lawful : IsLawfulCore (OfSome g.C.Change.is_plan) (taken seen c.args.hold c.args.content) =
     subst (λ (before : CoreState). IsLawfulCore (OfSome g.C.Change.is_plan)
     (taken before c.args.hold c.args.content)) (sym c.self.view_is) c.requires.lawful in (

@@ -9,8 +9,19 @@ next-requires-clause-sound c =
     let job_is : c.args.self.now.work.job ≡ Some c.in-Some-Some.job.now = search rules in
     job_sound c.args.self.now.work.job c.in-Some-Some.job.now job_is c.requires.asked
 
-pub returns-then-is_err-clause-next : goal.returns-then-is_err-clause-next
-returns-then-is_err-clause-next c =
+pub returns-in-Err-clause-next : goal.returns-in-Err-clause-next
+returns-in-Err-clause-next c =
+    let there : c.args.self.now.work.planner ≡ Some c.in-Some-Some.planner.now = search rules in record {
+      job = c.in-Some-Some.job.now;
+      job_is = search rules;
+      snap = c.in-Some-Some.planner.now.snap;
+      snap_is = ap seen_in there;
+      plan = tt;
+      is_step = tt;
+    }
+
+pub returns-in-Err-reserve_next-clause-next : goal.returns-in-Err-reserve_next-clause-next
+returns-in-Err-reserve_next-clause-next c =
     let there : c.args.self.now.work.planner ≡ Some c.in-Some-Some.planner.now = search rules in record {
       job = c.in-Some-Some.job.now;
       job_is = search rules;
