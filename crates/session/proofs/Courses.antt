@@ -258,7 +258,7 @@ pub judged_refused : (K : Type 0) (moment : Moment) (old : Opened) (j : Judged) 
     (bytes : List ℕ) → verdicts.Refused xid refusal ≡ j → IsSpelled xid (bodies.Refused refusal) bytes
     → IsMessageAnswered K moment old j bytes old
 judged_refused K moment old j xid refusal bytes is spelled =
-    subst (λ (told : Judged). IsMessageAnswered K moment old told bytes old)
+    subst (λ (found : Judged). IsMessageAnswered K moment old found bytes old)
     is (refusal_fits xid refusal bytes spelled, refl)
 
 pub judged_lacking : (K : Type 0) (moment : Moment) (old new : Opened) (j : Judged) (xid : ℕ) (bytes : List ℕ)
@@ -273,7 +273,7 @@ pub judged_call : (K : Type 0) (moment : Moment) (old new : Opened) (j : Judged)
     → verdicts.Call xid credential call ≡ j
     → IsCallAnswered K moment old xid credential call bytes new → IsMessageAnswered K moment old j bytes new
 judged_call K moment old new j xid credential call bytes is answered =
-    subst (λ (told : Judged). IsMessageAnswered K moment old told bytes new) is (inl answered)
+    subst (λ (found : Judged). IsMessageAnswered K moment old found bytes new) is (inl answered)
 
 -- ---- where the records stop
 

@@ -71,5 +71,5 @@ IsCallOf number Closed = ⊥
 
 -- what is told of a record: what it is, or that memory was refused to a call
 abbrev pub Judges : Result Judged Lacking → Judged → Type 0
-Judges (Ok told) verdict = told ≡ verdict
+Judges (Ok found) verdict = found ≡ verdict
 Judges (Err lacking) verdict = IsCallOf lacking.xid verdict

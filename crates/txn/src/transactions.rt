@@ -224,7 +224,7 @@ impl<C: Change> Core<C> {
         ensures stays { (other : ℕ) → PreservesReads self.old self.new other }
         ensures preserves { PreservesHome self.old self.new }
     {
-        note(&mut self.refused, error);
+        count_refusal(&mut self.refused, error);
     }
 
     // Whether the transaction is out, and a change may write the address's block.
@@ -299,8 +299,8 @@ impl<C: Change> Core<C> {
     }
 }
 
-// Notes that memory was refused.
-fn note(refused: &mut Log<AllocError, ()>, error: AllocError)
+// Counts that memory was refused.
+fn count_refusal(refused: &mut Log<AllocError, ()>, error: AllocError)
     ensures { length refused.new.items ≡ length refused.old.items + 1 }
 {
     *refused = refused.and(&error, &());

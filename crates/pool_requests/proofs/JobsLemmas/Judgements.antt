@@ -28,7 +28,7 @@ fits message xid credential call bytes spelled =
 pub refused : (verdict : Judged) (xid : ℕ) (why : Refusal) → Refused xid why ≡ verdict
     → RepliesWithout verdict xid (body.Refused why) None
 refused verdict xid why is =
-    subst (λ (told : Judged). RepliesWithout told xid (body.Refused why) None) is (refl, refl)
+    subst (λ (found : Judged). RepliesWithout found xid (body.Refused why) None) is (refl, refl)
 
 -- that memory was refused to a call
 pub lacks : (verdict : Judged) (xid : ℕ) (error : AllocError) → IsCallOf xid verdict

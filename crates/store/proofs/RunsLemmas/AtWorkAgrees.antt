@@ -213,8 +213,8 @@ module _ (o : Setting) (run_state : RunState) (number : ℕ) (store : StoreState
     pub step_moves_state : (made : Option Step) → GoesOn worker.phase old made new
         → IsRunState o (later made) (with_core store new.core)
     step_moves_state made goes =
-        let told = by_cases old new Tells agreeing_cases worker.phase made goes in
-        record { log = told.log; begun = told.begun; refused = counted made (counts_refused old new made goes) }
+        let agrees = by_cases old new Tells agreeing_cases worker.phase made goes in
+        record { log = agrees.log; begun = agrees.begun; refused = counted made (counts_refused old new made goes) }
       where
         counted : (made : Option Step) → new.core.refused ≡ next_refused store.core.refused made
             → (later made).refused ≡ new.core.refused

@@ -15,7 +15,7 @@ invariant_of-self g c =
     core.records.items core.boot (length core.log_calls.items) (length core.inst_calls.items)
     (length core.refused.items) in (
       c.self.invariant.0,
-      subst (λ (n : ℕ). IsLawfulCore (OfSome g.C.Change.is_plan) (record old { refused = n })) (sym c.note.ensures)
+      subst (λ (n : ℕ). IsLawfulCore (OfSome g.C.Change.is_plan) (record old { refused = n })) (sym c.count_refusal.ensures)
           (lawful_refused (OfSome g.C.Change.is_plan) old c.self.invariant.1),
       c.self.invariant.2,
     )
@@ -26,7 +26,7 @@ returns-clause-counted g c =
     let old : CoreState = core_of core.log core.inodes core.begun core.out.items core.holds core.present.blocks
     core.records.items core.boot (length core.log_calls.items) (length core.inst_calls.items)
     (length core.refused.items) in
-    ap (λ (n : ℕ). record old { refused = n }) c.note.ensures ∙ ap (λ (now : CoreState). with_refused now) c.self.view_is
+    ap (λ (n : ℕ). record old { refused = n }) c.count_refusal.ensures ∙ ap (λ (now : CoreState). with_refused now) c.self.view_is
 
 pub returns-clause-stays : goal.returns-clause-stays
 returns-clause-stays g c = λ other.
@@ -34,9 +34,9 @@ returns-clause-stays g c = λ other.
     let old : CoreState = core_of core.log core.inodes core.begun core.out.items core.holds core.present.blocks
     core.records.items core.boot (length core.log_calls.items) (length core.inst_calls.items)
     (length core.refused.items) in
-    let new : CoreState = record old { refused = length c.note.new.refused.items } in
+    let new : CoreState = record old { refused = length c.count_refusal.new.refused.items } in
     subst (λ (before : CoreState). PreservesReads before new other) c.self.view_is
-    (subst (λ (n : ℕ). PreservesReads old (record old { refused = n }) other) (sym c.note.ensures)
+    (subst (λ (n : ℕ). PreservesReads old (record old { refused = n }) other) (sym c.count_refusal.ensures)
     (reads_refused old other))
 
 pub returns-clause-preserves : goal.returns-clause-preserves
@@ -45,6 +45,6 @@ returns-clause-preserves g c =
     let old : CoreState = core_of core.log core.inodes core.begun core.out.items core.holds core.present.blocks
     core.records.items core.boot (length core.log_calls.items) (length core.inst_calls.items)
     (length core.refused.items) in
-    let new : CoreState = record old { refused = length c.note.new.refused.items } in
+    let new : CoreState = record old { refused = length c.count_refusal.new.refused.items } in
     subst (λ (before : CoreState). PreservesHome before new) c.self.view_is
-    (subst (λ (n : ℕ). PreservesHome old (record old { refused = n })) (sym c.note.ensures) (home_refused old))
+    (subst (λ (n : ℕ). PreservesHome old (record old { refused = n })) (sym c.count_refusal.ensures) (home_refused old))
