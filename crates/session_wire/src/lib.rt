@@ -8,6 +8,7 @@ mod message_laws;
 mod mount_replies;
 mod programs;
 mod reply;
+mod reply_room;
 mod streams;
 
 pub use judgement::judge;
@@ -22,6 +23,7 @@ pub use message_laws::{
 };
 pub use mount_replies::mount_reply;
 pub use reply::{append_reply, reply_bytes};
+pub use reply_room::{ReplyRoom, SHORT_REPLY_BYTES, short_replies_fit};
 pub use streams::{
     a_closed_connection_gets_no_reply, a_refused_call_gets_its_refusal, a_stream_goes_on,
     each_stream_can_be_served, no_messages_get_no_replies, streams_join, what_is_done_is_served,

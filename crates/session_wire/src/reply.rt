@@ -55,7 +55,7 @@ pub fn append_reply(
 }
 
 // The length of a reply, where a mark can tell it.
-fn length_in_mark(alloc: Global, xid: u32, reply: RpcReply) -> Option<u32>
+pub(crate) fn length_in_mark(alloc: Global, xid: u32, reply: RpcReply) -> Option<u32>
     ensures some { IfSome result (λ n. (n ≡ len (bytes_of xid (body_of reply.entry))) × (n < 2 ^ 31)
         × (body_too_long (body_of reply.entry) ≡ false)) }
     ensures none { IfNone result (IsTooLong xid (body_of reply.entry)) }
@@ -88,7 +88,7 @@ fn length_of(alloc: Global, xid: u32, reply: RpcReply) -> Option<usize>
 }
 
 // Writes a reply of this length behind its mark, where there is room for both.
-fn spell(out: &mut Writer, length: u32, xid: u32, reply: RpcReply)
+pub(crate) fn spell(out: &mut Writer, length: u32, xid: u32, reply: RpcReply)
     requires long { length ≡ len (bytes_of xid (body_of reply)) }
     requires less { length < 2 ^ 31 }
     requires short { body_too_long (body_of reply) ≡ false }
