@@ -1,11 +1,13 @@
 //! What a seat has of its job.
-ghost use Rattle.std.specs.Prelude.{◌≡◌, ◌≤◌, IsSomeAnd, IsTrue};
-ghost use Rattle.pool.specs.Answers.{GivesBy, answer_of, in_flight_with, given_to, kept, way_by};
+ghost use Rattle.std.specs.Prelude.{◌≡◌, ◌≤◌, IfSome, IsSomeAnd, IsTrue};
+ghost use Rattle.session_wire.specs.Capacity.{FitsIn};
+ghost use Rattle.store_workers.specs.Room.{HasRoomFor};
+ghost use Rattle.pool.specs.Answers.{GivesBy, answer_of, body_of, in_flight_with, given_to, kept, way_by};
 
 use nfs_types::ProgramReply;
 use pool_requests::{Answer, ReplyAddress};
 use procs::{CommitWitness, Done};
-use session_wire::ReplyBody;
+use session_wire::{ReplyBody, ReplyRoom};
 use std::marker::Model;
 use std::sync::ledger::{Ledger, Share};
 use store_promise::{CallAnswer, Committing, Step, Verdict};
@@ -64,9 +66,11 @@ impl<L: Ledger> CallInFlight<L> {
         made: &Option<Step>,
         shown: Option<CommitWitness>,
         given: Option<CallAnswer>,
+        room: Option<ReplyRoom>,
         share: &Share<L>,
     ) -> CallInFlight<L>
-        requires { GivesFor core.now made.now self shown given }
+        requires gives { GivesFor core.now made.now self shown given }
+        requires room { IfSome given (λ answer. HasRoomFor room (body_of answer.verdict)) }
         ensures { result ≡ in_flight_after made.now self shown given }
     {
         let CallInFlight {
@@ -81,6 +85,7 @@ impl<L: Ledger> CallInFlight<L> {
             kept(witness, shown),
             answer,
             given,
+            room,
             share,
         )
     }
@@ -94,9 +99,11 @@ fn left_of<L: Ledger>(
     witness: Option<CommitWitness>,
     answer: Option<Answer<L>>,
     given: Option<CallAnswer>,
+    room: Option<ReplyRoom>,
     share: &Share<L>,
 ) -> CallInFlight<L>
-    requires { given_to core.now made.now reply_address witness given }
+    requires gives { given_to core.now made.now reply_address witness given }
+    requires room { IfSome given (λ answer. HasRoomFor room (body_of answer.verdict)) }
     ensures { result ≡ in_flight_with made.now reply_address witness answer given }
 {
     let Some(given) = given else {
@@ -113,10 +120,14 @@ fn left_of<L: Ledger>(
             answer,
         };
     };
+    let Some(room) = room else {
+        unreachable!();
+    };
+    let way = way_by(made);
     CallInFlight {
         reply_address: None,
         witness: None,
-        answer: Some(answer_of(core, way_by(made), reply_address, witness, given, share)),
+        answer: Some(answer_of(core, way, reply_address, witness, given, room, share)),
     }
 }
 
@@ -149,31 +160,34 @@ fn answer_of<L: Ledger>(
     reply_address: ReplyAddress,
     witness: Option<CommitWitness>,
     given: CallAnswer,
+    room: ReplyRoom,
     share: &Share<L>,
 ) -> Answer<L>
-    requires { GivesBy core.now way reply_address witness given.verdict }
+    requires gives { GivesBy core.now way reply_address witness given.verdict }
+    requires room { FitsIn room (body_of given.verdict) }
     ensures { result ≡ answer_of way reply_address witness given.verdict }
 {
     match (way, witness, given.verdict) {
         (Way::Commit, Some(witness), Verdict::Reply(reply)) => {
-            return Answer::of_change(reply_address, witness, None, reply, share);
+            return Answer::of_change(reply_address, witness, None, reply, room, share);
         }
         (Way::Settled(place), Some(witness), Verdict::Reply(reply)) => {
             let stable = core.stable(place);
-            return Answer::of_change(reply_address, witness, stable, reply, share);
+            return Answer::of_change(reply_address, witness, stable, reply, room, share);
         }
         (Way::Nothing, _, _) => {
-            return Answer::of_nothing(reply_address, share);
+            return Answer::of_nothing(reply_address, room, share);
         }
         (_, _, Verdict::Reply(reply)) => {
             return Answer::substitute(
                 reply_address,
                 ReplyBody::Done(ProgramReply::Nfs(reply)),
+                room,
                 share,
             );
         }
         (_, _, Verdict::NoMemory(error)) => {
-            return Answer::lacking(reply_address, error, share);
+            return Answer::lacking(reply_address, error, room, share);
         }
     }
 }

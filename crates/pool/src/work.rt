@@ -1,6 +1,8 @@
 //! A worker with its job.
-ghost use Rattle.std.specs.Prelude.{◌≡◌, Option, Some};
+ghost use Rattle.std.specs.Prelude.{◌≡◌, IfSome, Option, Some};
+ghost use Rattle.pool.specs.Answers.{body_of};
 ghost use Rattle.pool.specs.Stepping.{result_of_step, result_of_commit, result_of_lock_answer, turn_by};
+ghost use Rattle.store_workers.specs.Room.{HasRoomFor};
 ghost use Rattle.store_workers.specs.RunReports.{reported};
 ghost use Rattle.store_workers.specs.Witnessed.{WitnessesCommit};
 ghost use Rattle.store_workers.specs.WorkerSteps.{GoesOn, worker_and_core};
@@ -12,6 +14,7 @@ use disk::Source;
 use nfs_types::Moment;
 use pool_requests::{Answer, Job};
 use procs::{CommitWitness, Done};
+use session_wire::ReplyRoom;
 use std::alloc::Global;
 use std::marker::Model;
 use std::mem;
@@ -80,7 +83,7 @@ impl<L: Ledger> Work<L> {
         if !self.is_free() {
             return Err(job);
         }
-        let (reply_address, credential, call) = job.take_up(moment);
+        let (reply_address, credential, call, room) = job.take_up(moment);
         let in_flight = CallInFlight {
             reply_address: Some(reply_address),
             witness: None,
@@ -88,7 +91,7 @@ impl<L: Ledger> Work<L> {
         };
         drop(mem::replace(&mut self.in_flight, in_flight));
         self.step_result = StepResult::Nothing;
-        self.worker.hand(credential, moment, call);
+        self.worker.hand(credential, moment, call, room);
         Ok(())
     }
 
@@ -154,9 +157,9 @@ impl<L: Ledger> Work<L> {
         ensures places { core.new.log.places ≡ core.old.log.places + grown self.new.step_result }
         ensures calls { HandsOutNone core.old core.new }
     {
-        let (made, given, shown) = advance(alloc, core, &mut self.worker);
+        let (made, given, room, shown) = advance(alloc, core, &mut self.worker);
         let in_flight = mem::replace(&mut self.in_flight, CallInFlight::none());
-        let in_flight = in_flight.after(core, &made, shown, given, share);
+        let in_flight = in_flight.after(core, &made, shown, given, room, share);
         drop(mem::replace(&mut self.in_flight, in_flight));
         self.step_result = result_of_step(&made);
         turn_by(&made)
@@ -175,20 +178,28 @@ impl<L: Ledger> Work<L> {
     }
 }
 
-// The worker's next step, the answer that it gives with it, and what shows that it committed.
+// The worker's next step, the answer that it gives with it, memory into which that fits, and what shows that it committed.
 fn advance(
     alloc: Global,
     core: &mut Core<Done>,
     worker: &mut Worker,
-) -> (Option<Step>, Option<CallAnswer>, Option<CommitWitness>)
-    ensures { (state : State)
+) -> (
+    Option<Step>,
+    Option<CallAnswer>,
+    Option<ReplyRoom>,
+    Option<CommitWitness>,
+)
+    ensures step { (state : State)
         × GoesOn worker.old.state.phase (worker_and_core worker.old.state core.old) result.0 (worker_and_core state core.new)
         × (worker.new.state ≡ reported state) × (result.1 ≡ state.work.answer)
-        × WitnessesCommit result.0 state result.2 }
+        × WitnessesCommit result.0 state result.3 }
+    ensures room { IfSome result.1 (λ answer. HasRoomFor result.2 (body_of answer.verdict)) }
 {
     let (made, shown) = worker.step_witnessed(alloc, core);
-    let given = worker.take_answer();
-    (made, given, shown)
+    match worker.take_answer() {
+        Some((given, room)) => (made, Some(given), Some(room), shown),
+        None => (made, None, None, shown),
+    }
 }
 
 // What a step was told.

@@ -4,6 +4,7 @@ use Rattle.base.specs.declared.TheConstants.{CHANGED_BLOCKS}
 use Rattle.nfs_types.specs.declared.call.Call.{Call}
 use Rattle.nfs_types.specs.declared.ctx.Ctx.{Ctx}
 use Rattle.nfs_spec.specs.Model.Calls.{begins_transaction}
+use Rattle.nfs_lengths.specs.Lengths.{IsShort}
 use Rattle.inode.specs.declared.snap.Snap.{Snap}
 use Rattle.procs.specs.Finished.{ChangesFew, EndsFrom, IsFinished}
 use Rattle.procs.specs.Outcome.{IsMadeFor, Outcome}
@@ -12,8 +13,9 @@ use Rattle.procs.specs.Steps.{IsStepOf}
 
 pub finished : (ctx : Ctx) (call : Call) (snap : Snap) (done : Outcome)
     → SoundCall ctx.credential ctx.moment call → begins_transaction call ≡ true → IsMadeFor ctx call done
-    → EndsFrom snap done → IsStepOf snap.geometry ctx call done → ChangesFew CHANGED_BLOCKS done → IsFinished done
-finished ctx call snap done sound served made ends step few = record {
+    → EndsFrom snap done → IsStepOf snap.geometry ctx call done → ChangesFew CHANGED_BLOCKS done
+    → IsShort done.reply → IsFinished done
+finished ctx call snap done sound served made ends step few short = record {
   sound = subst (λ (x : Ctx). SoundCall x.credential x.moment done.asked) (sym made.ctx_is)
       (subst (λ (c : Call). SoundCall ctx.credential ctx.moment c) (sym made.call_is) sound);
   snap = snap;
@@ -22,4 +24,5 @@ finished ctx call snap done sound served made ends step few = record {
   step = subst (λ (x : Ctx). IsStepOf snap.geometry x done.asked done) (sym made.ctx_is)
       (subst (λ (c : Call). IsStepOf snap.geometry ctx c done) (sym made.call_is) step);
   few = few;
+  short = short;
 }

@@ -4,6 +4,7 @@ use Rattle.base.specs.declared.TheConstants.{CHANGED_BLOCKS}
 use Rattle.nfs_types.specs.declared.call.Call.{Call}
 use Rattle.nfs_types.specs.declared.ctx.Ctx.{Ctx}
 use Rattle.nfs_types.specs.declared.reply.Reply.{Reply}
+use Rattle.nfs_lengths.specs.Lengths.{IsShort}
 use Rattle.nfs_spec.specs.Model.Calls.{begins_transaction}
 use Rattle.txn.specs.Answering.{OfSome}
 use Rattle.txn.specs.Group.{blocks_of}
@@ -25,7 +26,7 @@ abbrev pub ChangesFew : ℕ → Outcome → Type 0
 ChangesFew most done = length (blocks_of done.written) ≤ most
 
 -- The call that it was worked out for can be spelled, and ends so from what was read for it, which is a step of the
--- sequential server.
+-- sequential server. Its reply is short, on any image.
 pub record IsFinished (done : Outcome) : Type 0 where
   pub sound : SoundCall done.ctx.credential done.ctx.moment done.asked
   pub snap : Snap
@@ -33,6 +34,7 @@ pub record IsFinished (done : Outcome) : Type 0 where
   pub ends : EndsFrom snap done
   pub step : IsStepOf snap.geometry done.ctx done.asked done
   pub few : ChangesFew CHANGED_BLOCKS done
+  pub short : IsShort done.reply
 
 -- Some call ends in this reply and these writes from what was read, in an image of these counts.
 abbrev pub IsAnsweredPlan : ℕ → ℕ → Reply → List ObjectBytes → List ObjectBytes → Type 0

@@ -1,5 +1,6 @@
 //! Plans: what a call needs next, or what comes of it.
 ghost use Rattle.std.specs.Prelude.{◌≡◌, true, IfErr, IfOk};
+ghost use Rattle.nfs_lengths.specs.Lengths.{IsShort};
 ghost use Rattle.nfs_spec.specs.Model.Calls.{begins_transaction};
 ghost use Rattle.inode.specs.Read.{NoneStand};
 ghost use Rattle.inode.specs.Snap.{IsNew};
@@ -21,6 +22,7 @@ use crate::untested_plan::UntestedPlan;
 use crate::update_calls::change_call;
 use dir::Names;
 use inode::{Snap, Suspend};
+use nfs_lengths::{a_refusal_is_short, a_step_tells_a_short_reply, is_short};
 use nfs_types::{Call, Ctx, Status};
 use procs_inspection::{is_refused, what_is_refused_is_in_no_tree};
 use std::alloc::Global;
@@ -119,8 +121,9 @@ fn answer_from_first(
     }
 }
 
-// The same, where nothing that was read is refused. All of it is looked through once, when nothing more is to be
-// read.
+// The same, where nothing that was read is refused, and with a short reply. All that was read is looked through once, when
+// nothing more is to be read. Names, targets, data and listings are bounded where they are read, so that no reply is too
+// long; that it is so is tested, and proved only of a sound tree.
 fn work(
     alloc: Global,
     ctx: &Ctx,
@@ -137,11 +140,16 @@ fn work(
     ensures asks { IfErr result (λ suspend. IsAsked snap.now suspend) }
     ensures io { IfErr result (λ suspend. NoneStandFor ctx.now call.now snap.now suspend) }
     ensures sound { IfOk result (λ done. NoneRefusedIn snap.now call.now × NoneRead snap.now) }
+    ensures short { IfOk result (λ done. IsShort done.reply) }
 {
     match answer_from_first(alloc, ctx, call, snap, names) {
         Ok(done) => {
             if is_refused(snap, names) {
                 what_is_refused_is_in_no_tree();
+                return Err(Suspend::Io);
+            }
+            if !is_short(alloc, done.reply()) {
+                a_step_tells_a_short_reply();
                 return Err(Suspend::Io);
             }
             Ok(done)
@@ -157,6 +165,7 @@ fn finish(ctx: &Ctx, call: &Call, snap: &Snap, untested_plan: UntestedPlan) -> P
     requires made { IsMadeFor ctx.now call.now untested_plan }
     requires ends { EndsFrom snap.now untested_plan }
     requires step { IsStepOf snap.now.geometry ctx.now call.now untested_plan }
+    requires short { IsShort untested_plan.reply }
     ensures plan { IsPlanFor snap.now result }
     ensures step { IsStepPlan snap.now.geometry ctx.now call.now result }
     ensures done { IsDoneWith untested_plan result }
@@ -191,7 +200,10 @@ pub(crate) fn run(alloc: Global, ctx: &Ctx, call: &Call, snap: &Snap, names: &Na
             snap,
             refused_reply(call, Status::Io),
         ) {
-            Ok(done) => finish(ctx, call, snap, done),
+            Ok(done) => {
+                a_refusal_is_short();
+                finish(ctx, call, snap, done)
+            }
             Err(error) => Plan::NoMemory(error),
         },
     }

@@ -5,7 +5,7 @@ use crate::jobs::Jobs;
 use base::{CROWDING_BLOCKS, URGENT_COMMITS};
 use disk::Port;
 use nfs_types::Moment;
-use pool::{Answer, Connections, CoreSummary, IoSeat, Pool, Put, ReplyBytes, Seat, Shared, Whole};
+use pool::{Answer, Connections, CoreSummary, IoSeat, Pool, ReplyBytes, Seat, Shared, Whole};
 use server_connection::Connection;
 use server_sync::{FreeSeats, LogWaits, Moments, Notifier, Rounds, Seats, moment_of};
 use std::alloc::{AllocError, Global};
@@ -85,11 +85,7 @@ impl<L: Ledger> Synchronization<L> {
         let Some(connection) = self.connection(rt, key, number) else {
             return;
         };
-        let mut reply = ReplyBytes::new(alloc, key, number);
-        match reply.put(alloc, answer) {
-            Put::Done => connection.answer(rt, Some(reply)),
-            Put::Another | Put::Refused => connection.answer(rt, None),
-        }
+        connection.answer(rt, Some(ReplyBytes::of(alloc, answer)));
     }
 
     /// Ends the connection with this key and number, as one of its calls that were handed on isn't answered.

@@ -3,10 +3,6 @@ pub mod Counted
 pub mod Courses
 pub mod Written
 pub mod Filed
-pub mod ShortCodes
-pub mod ShortListings
-pub mod ShortMade
-pub mod ShortReplies
 pub mod Taken
 pub mod ServedFiles
 pub mod LackingStores

@@ -42,7 +42,7 @@ use Rattle.session.specs.Filing.{AreAnswered, AreCounted, AreFiled, Files, IsFil
 use Rattle.session.specs.Filing.{outset_of}
 use Rattle.session.specs.Replying.{HasLacked, IsMessageAnswered, IsMounted, IsSystemError, lacking}
 use Rattle.session.proofs.LackingStores.{open_lacking}
-use Rattle.session.specs.Serving.{reply_for}
+use Rattle.store_workers.specs.Room.{reply_for}
 use Rattle.session.specs.Standing.{serving_of, standing_of}
 use Rattle.session.specs.Streaming.{Answered}
 

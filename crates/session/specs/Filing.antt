@@ -29,7 +29,7 @@ use Rattle.session.specs.declared.stream.SessionFault.{SessionFault}
 use Rattle.session.specs.declared.stream.SessionFault.TheVariants.{Record, Input, Output, NoMemory, Truncated}
 use Rattle.session.specs.declared.stream.SessionFault.TheVariants.{Device}
 use Rattle.session.specs.Replying.{HasLacked, IsSystemError, lacking}
-use Rattle.session.specs.Serving.{reply_for}
+use Rattle.store_workers.specs.Room.{reply_for}
 use Rattle.session.specs.Standing.{serving_of, standing_of}
 use Rattle.session.specs.Streaming.{IsStream}
 use Rattle.session.specs.Writing.{OutputState}

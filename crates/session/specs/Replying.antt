@@ -15,7 +15,7 @@ use Rattle.session_wire.specs.declared.message.Judged.{Judged}
 use Rattle.session_wire.specs.declared.message.Judged.TheVariants.{Closed, Refused, Call}
 use Rattle.session_wire.specs.declared.message.ReplyBody.{ReplyBody}
 use Rattle.session_wire.specs.declared.message.ReplyBody.TheVariants as bodies
-use Rattle.session_wire.specs.Replies.{reply_bytes, IsTooLong}
+use Rattle.session_wire.specs.Replies.{reply_bytes}
 use Rattle.store.specs.Calling.{Answers, asked_of}
 use Rattle.store_images.specs.Opening.{Opened}
 use Rattle.txn_law.specs.Core.{with_refused}
@@ -23,12 +23,11 @@ use Rattle.store_images.specs.Settling.{IsIdle}
 use Rattle.store_promise.specs.Progress.{Job}
 use Rattle.procs.specs.SoundCalls.{SoundCall}
 use Rattle.store_promise.specs.declared.answers.Verdict.{Verdict}
-use Rattle.session.specs.Serving.{reply_for}
+use Rattle.store_workers.specs.Room.{reply_for}
 
--- the reply's spelling, or a system error in place of one that is too long for a record
+-- the reply's one spelling
 abbrev pub IsSpelled : ℕ → ReplyBody → List ℕ → Type 0
-IsSpelled xid body bytes = ((bytes ≡ reply_bytes xid body) × (IsTooLong xid body → ⊥))
-    ⊎ (IsTooLong xid body × (bytes ≡ refused xid SystemError))
+IsSpelled xid body bytes = bytes ≡ reply_bytes xid body
 
 -- a caller and a call that can be spelled
 pub record TakesCall (credential : Credential) (call : ProgramCall) : Type 0 where

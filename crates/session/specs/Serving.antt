@@ -2,12 +2,6 @@
 use Rattle.std.specs.Prelude.{⊤, ℕ, List, Option, Result, Ok, Err}
 use Rattle.std.specs.Io.KnownBytes.{IsAtEnd}
 use Rattle.nfs_types.specs.declared.ctx.Moment.{Moment}
-use Rattle.nfs_types.specs.declared.program.ProgramReply.TheVariants as replies
-use Rattle.session_wire.specs.declared.message.ReplyBody.{ReplyBody}
-use Rattle.session_wire.specs.declared.message.ReplyBody.TheVariants as bodies
-use Rattle.rpc.specs.declared.refusal.Refusal.TheVariants as refusals
-use Rattle.store_promise.specs.declared.answers.Verdict.{Verdict}
-use Rattle.store_promise.specs.declared.answers.Verdict.TheVariants as verdicts
 use Rattle.store_images.specs.Opening.{IsSettled, Opened}
 use Rattle.store_images.specs.Settling.{IsIdle}
 use Rattle.session.specs.declared.stream.SessionFault.{SessionFault}
@@ -20,12 +14,6 @@ pub record Client : Type 0 where
 
 abbrev pub client_of : Option (List ℕ) → Option (List ℕ) → Client
 client_of unread written = record { unread = unread; written = written }
-
--- what a call is replied by what came of its procedure: its reply, or a system error where memory was refused
--- (RFC 5531, section 9)
-abbrev pub reply_for : Verdict → ReplyBody
-reply_for (verdicts.Reply reply) = bodies.Done (replies.Nfs reply)
-reply_for (verdicts.NoMemory error) = bodies.Refused refusals.SystemError
 
 -- with an answer the input has ended and every change is settled
 abbrev pub IsEnded : Result ℕ SessionFault → Opened → Client → Type 0

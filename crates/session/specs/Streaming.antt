@@ -64,22 +64,22 @@ IsUntouched old first new written = (new ≡ old) × (written ≡ first)
 
 -- ---- one record
 
--- One of these replies was written, as one last fragment, or a beginning of it; or memory was refused for its
--- bytes, and nothing was written.
+-- One of these replies was written, as one last fragment, or a beginning of it.
 abbrev pub Delivers : (List ℕ → Type 0) → OutputState → Result (Unit {0}) SessionFault → OutputState → Type 0
 Delivers IsReply first result written = (reply : List ℕ) × IsReply reply × Writes first (fragment true reply) result written
 
--- what comes of one record: it is answered, or the connection closes on it
+-- what comes of one record: it is answered, or the connection closes on it, or memory was refused before it was looked at
 abbrev pub Serves : Type 0 → Moment → Opened → OutputState → List ℕ → Result (Unit {0}) SessionFault → Opened → OutputState → Type 0
 Serves keeps_model moment old first message result new written =
     Delivers (λ (reply : List ℕ). IsMessageAnswered keeps_model moment old (judged message) reply new) first
     result written
     ⊎ ((result ≡ Err Record) × (judged message ≡ Closed) × IsUntouched old first new written)
+    ⊎ ((result ≡ Err NoMemory) × IsUntouched old first new written)
 
 -- ---- the records that are there
 
 -- what is left begins with a message that was answered, and its reply wasn't written whole
-pub record IsCutShort (keeps_model : Type 0) (moment : Moment) (fault : SessionFault) (left : List ℕ) (old : Opened)
+pub record IsCutShort (keeps_model : Type 0) (moment : Moment) (left : List ℕ) (old : Opened)
     (first : OutputState) (new : Opened) (written : OutputState) : Type 0 where
   pub text : List ℕ
   pub message : List ℕ
@@ -88,16 +88,14 @@ pub record IsCutShort (keeps_model : Type 0) (moment : Moment) (fault : SessionF
   pub cut : left ≡ text ++ more
   pub is : IsRecord text message
   pub answered : IsMessageAnswered keeps_model moment old (judged message) reply new
-  pub unwritten : IsUnwritten fault first (fragment true reply) written
+  pub unwritten : IsUnwritten Output first (fragment true reply) written
 
 -- a stream that comes to a fault while its records are answered
 abbrev pub StopsAt : Type 0 → Moment → SessionFault → List ℕ → Opened → OutputState → Opened → OutputState → Type 0
 StopsAt keeps_model moment Record left old first new written = IsUntouched old first new written
     × (IsTooLong left ⊎ BeginsClosed left)
 StopsAt keeps_model moment NoMemory left old first new written = IsUntouched old first new written
-    ⊎ IsCutShort keeps_model moment NoMemory left old first new written
-StopsAt keeps_model moment Output left old first new written =
-    IsCutShort keeps_model moment Output left old first new written
+StopsAt keeps_model moment Output left old first new written = IsCutShort keeps_model moment left old first new written
 StopsAt keeps_model moment Input left old first new written = ⊥
 StopsAt keeps_model moment Truncated left old first new written = ⊥
 StopsAt keeps_model moment Device left old first new written = ⊥
@@ -114,17 +112,16 @@ Going keeps_model moment old first read (Err fault) left new written = (rest : L
 -- ---- the stream
 
 -- the replies were written, but for an end of the last one
-pub record IsCutOff (fault : SessionFault) (first : OutputState) (replies : List (List ℕ)) (written : OutputState) : Type 0 where
+pub record IsCutOff (first : OutputState) (replies : List (List ℕ)) (written : OutputState) : Type 0 where
   pub whole : List (List ℕ)
   pub last : List ℕ
   pub is : replies ≡ whole ++ last ∷ []
   pub output_state : OutputState
   pub sent : HasReplied first whole output_state
-  pub unwritten : IsUnwritten fault output_state (fragment true last) written
+  pub unwritten : IsUnwritten Output output_state (fragment true last) written
 
 -- Where a stream ends, by what is left of the bytes that were read, and what is written of the replies. With
--- a count none is left, and it is theirs. NoMemory may come where a record is cut out, or behind a message
--- whose reply finds no memory.
+-- a count none is left, and it is theirs. NoMemory may come where a record is cut out, or before one is looked at.
 abbrev pub EndsAt : Result ℕ SessionFault → List ℕ → Option (List ℕ) → OutputState → OutputState → List (List ℕ) → Type 0
 EndsAt (Ok count) left unread first written replies = (left ≡ []) × IsAtEnd unread
     × (count ≡ count_of replies) × HasReplied first replies written
@@ -136,9 +133,8 @@ EndsAt (Err Truncated) left unread first written replies = HasBegun left × IsAt
     × HasReplied first replies written
 EndsAt (Err Device) left unread first written replies = (left ≡ []) × IsAtEnd unread
     × HasReplied first replies written
-EndsAt (Err Output) left unread first written replies = IsCutOff Output first replies written
+EndsAt (Err Output) left unread first written replies = IsCutOff first replies written
 EndsAt (Err NoMemory) left unread first written replies = HasReplied first replies written
-    ⊎ IsCutOff NoMemory first replies written
 
 -- What comes of a stream, of the bytes that the reader gave: they are whole messages and what is left; each
 -- message was answered, one after another, which left this store; and so it ended.

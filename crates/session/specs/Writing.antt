@@ -106,12 +106,11 @@ AreAllSent [] calls = calls ≡ []
 AreAllSent (text ∷ texts) calls = (one : Calls) × (others : Calls) × (calls ≡ one ++ others) × AreSent text one
     × AreAllSent texts others
 
--- A text wasn't written whole. With Output a part of it was, up to the call that failed; with NoMemory there was no
--- call.
+-- A text wasn't written whole: a part of it was, up to the call that failed.
 abbrev pub IsUnwritten : SessionFault → OutputState → List ℕ → OutputState → Type 0
 IsUnwritten Output first text written = (part : List ℕ) × (lost : List ℕ) × (text ≡ part ++ lost)
     × Tells first part (AreCutOff part lost) written
-IsUnwritten NoMemory first text written = written ≡ first
+IsUnwritten NoMemory first text written = ⊥
 IsUnwritten Record first text written = ⊥
 IsUnwritten Input first text written = ⊥
 IsUnwritten Truncated first text written = ⊥

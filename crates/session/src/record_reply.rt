@@ -1,13 +1,14 @@
 //! Answering one record.
-ghost use Rattle.std.specs.Prelude.{◌≡◌, ℕ, ◌<◌, get_or};
+ghost use Rattle.std.specs.Prelude.{◌≡◌, ℕ, ◌<◌, ◌≤◌, get_or};
 ghost use Rattle.nfs_spec.specs.Model.Sound.{SoundTime};
 ghost use Rattle.store_images.specs.Opening.{store_of};
 ghost use Rattle.store_images.specs.Settling.{IsIdle};
-ghost use Rattle.session.specs.Serving.{reply_for};
+ghost use Rattle.store_workers.specs.Room.{reply_for};
 ghost use Rattle.session.specs.Replying.{HasLacked, IsCallAnswered, IsMounted, TakesCall};
 ghost use Rattle.session.specs.Streaming.{Delivers, Serves};
 ghost use Rattle.session.specs.Writing.{output_state_of};
 ghost use Rattle.session_wire.specs.Replies.{body_of};
+ghost use Rattle.session_wire.specs.declared.reply_room.TheConstants.{SHORT_REPLY_BYTES};
 
 use crate::output::Output;
 use crate::replies::put;
@@ -16,12 +17,16 @@ use bytes::Bytes;
 use disk::CrashDisk;
 use nfs_types::{Credential, Moment, MountCall, ProgramCall};
 use rpc::Refusal;
-use session_wire::{Judged, Lacking, RpcReply, judge, mount_reply};
+use session_wire::{
+    Judged, Lacking, ReplyRoom, RpcReply, judge, mount_reply, short_replies_fit,
+    what_fits_fits_into_more,
+};
 use std::alloc::{AllocError, Global};
 use std::io::Write;
 use store::{Store, Verdict, procedure};
 
-/// Answers one record.
+/// Answers one record. Memory for its answer is taken before it is looked at, for each answer that rests on no commit;
+/// where that is refused nothing of the record is done.
 pub fn serve_record<D: CrashDisk, W: Write>(
     alloc: Global,
     store: &mut Store<D>,
@@ -39,12 +44,19 @@ pub fn serve_record<D: CrashDisk, W: Write>(
         message.now result
         (store_of (D.device store.new.disk) store.new.core store.new.boot) (output_state_of W.contents writer.new) }
 {
+    let room = match ReplyRoom::new(alloc) {
+        Ok(room) => room,
+        Err(_) => return Err(SessionFault::NoMemory),
+    };
+    room.is_enough();
     are_bytes(message.as_slice());
     match judge(alloc, message) {
-        Err(Lacking { xid, error }) => lack(alloc, store, xid, error, writer),
+        Err(Lacking { xid, error }) => lack(alloc, store, room, xid, error, writer),
         Ok(Judged::Closed) => Err(SessionFault::Record),
         Ok(Judged::Refused { xid, refusal }) => {
-            put(alloc, writer, xid, RpcReply::Refused(refusal))
+            short_replies_fit();
+            what_fits_fits_into_more();
+            put(alloc, writer, room, xid, RpcReply::Refused(refusal))
         }
         Ok(
             Judged::Call {
@@ -52,7 +64,7 @@ pub fn serve_record<D: CrashDisk, W: Write>(
                 credential,
                 call,
             },
-        ) => serve_call(alloc, store, xid, credential, call, writer, moment),
+        ) => serve_call(alloc, store, room, xid, credential, call, writer, moment),
     }
 }
 
@@ -65,6 +77,7 @@ fn are_bytes(message: &[u8])
 fn serve_call<D: CrashDisk, W: Write>(
     alloc: Global,
     store: &mut Store<D>,
+    room: ReplyRoom,
     xid: u32,
     credential: Credential,
     call: ProgramCall,
@@ -74,6 +87,7 @@ fn serve_call<D: CrashDisk, W: Write>(
     requires idle { IsIdle store.old.core }
     requires timely { SoundTime moment }
     requires fits { TakesCall credential call }
+    requires room { SHORT_REPLY_BYTES ≤ room }
     ensures idle { IsIdle store.new.core }
     ensures boot { store.new.boot ≡ store.old.boot }
     ensures model { D.keeps_model store.new.disk → D.keeps_model store.old.disk }
@@ -84,12 +98,12 @@ fn serve_call<D: CrashDisk, W: Write>(
 {
     match call {
         ProgramCall::Nfs(call) => {
-            let verdict = procedure(alloc, store, credential, moment, call);
-            let answered = put(alloc, writer, xid, reply_to(&verdict));
+            let (verdict, room) = procedure(alloc, store, credential, moment, call, room);
+            let answered = put(alloc, writer, room, xid, reply_to(&verdict));
             drop(verdict);
             answered
         }
-        ProgramCall::Mount(call) => serve_mount(alloc, store, xid, &call, writer),
+        ProgramCall::Mount(call) => serve_mount(alloc, store, room, xid, &call, writer),
     }
 }
 
@@ -97,11 +111,13 @@ fn serve_call<D: CrashDisk, W: Write>(
 fn serve_mount<D: CrashDisk, W: Write>(
     alloc: Global,
     store: &mut Store<D>,
+    room: ReplyRoom,
     xid: u32,
     call: &MountCall,
     writer: &mut Output<W>,
 ) -> Result<(), SessionFault>
-    requires { IsIdle store.old.core }
+    requires idle { IsIdle store.old.core }
+    requires room { SHORT_REPLY_BYTES ≤ room }
     ensures idle { IsIdle store.new.core }
     ensures disk { store.new.disk ≡ store.old.disk }
     ensures boot { store.new.boot ≡ store.old.boot }
@@ -111,11 +127,13 @@ fn serve_mount<D: CrashDisk, W: Write>(
 {
     match mount_reply(alloc, call) {
         Ok(reply) => {
-            let answered = put(alloc, writer, xid, RpcReply::Mount(&reply));
+            short_replies_fit();
+            what_fits_fits_into_more();
+            let answered = put(alloc, writer, room, xid, RpcReply::Mount(&reply));
             drop(reply);
             answered
         }
-        Err(error) => lack(alloc, store, xid, error, writer),
+        Err(error) => lack(alloc, store, room, xid, error, writer),
     }
 }
 
@@ -123,11 +141,13 @@ fn serve_mount<D: CrashDisk, W: Write>(
 fn lack<D: CrashDisk, W: Write>(
     alloc: Global,
     store: &mut Store<D>,
+    room: ReplyRoom,
     xid: u32,
     error: AllocError,
     writer: &mut Output<W>,
 ) -> Result<(), SessionFault>
-    requires { IsIdle store.old.core }
+    requires idle { IsIdle store.old.core }
+    requires room { SHORT_REPLY_BYTES ≤ room }
     ensures idle { IsIdle store.new.core }
     ensures disk { store.new.disk ≡ store.old.disk }
     ensures boot { store.new.boot ≡ store.old.boot }
@@ -136,7 +156,9 @@ fn lack<D: CrashDisk, W: Write>(
         (output_state_of W.contents writer.old) result (output_state_of W.contents writer.new) }
 {
     store.core.refuse(error);
-    put(alloc, writer, xid, RpcReply::Refused(Refusal::SystemError))
+    short_replies_fit();
+    what_fits_fits_into_more();
+    put(alloc, writer, room, xid, RpcReply::Refused(Refusal::SystemError))
 }
 
 /// What a call is answered by what came of its procedure: its reply, or a system error where an allocation

@@ -1,48 +1,31 @@
 //! Writing replies.
 ghost use Rattle.std.specs.Prelude.{◌≡◌, IfErr};
-ghost use Rattle.session.specs.Replying.{IsSpelled, IsSystemError};
+ghost use Rattle.session.specs.Replying.{IsSpelled};
 ghost use Rattle.session.specs.Streaming.{Delivers};
 ghost use Rattle.session.specs.Writing.{Writes, output_state_of};
+ghost use Rattle.session_wire.specs.Capacity.{FitsIn};
 ghost use Rattle.session_wire.specs.Replies.{body_of};
 
 use crate::output::Output;
 use crate::stream::SessionFault;
-use rpc::Refusal;
-use session_wire::{RpcReply, reply_bytes};
+use session_wire::{ReplyRoom, RpcReply};
 use std::alloc::Global;
 use std::io::{ErrorKind, Write};
-use xdr::XdrFault;
 
-/// Writes a reply, or a system error in place of one that is too long for a record.
+/// Writes a reply, in the memory that was taken for it.
 pub fn put<W: Write>(
     alloc: Global,
     writer: &mut Output<W>,
+    room: ReplyRoom,
     xid: u32,
     reply: RpcReply<'_>,
 ) -> Result<(), SessionFault>
+    requires { FitsIn room (body_of reply) }
     ensures { Delivers (λ bytes. IsSpelled xid (body_of reply.entry) bytes) (output_state_of W.contents writer.old) result
         (output_state_of W.contents writer.new) }
 {
-    match reply_bytes(alloc, xid, reply) {
-        Ok(bytes) => write_whole(writer, &bytes),
-        Err(XdrFault::Length) => put_system_error(alloc, writer, xid),
-        Err(_) => Err(SessionFault::NoMemory),
-    }
-}
-
-// Writes a system error.
-fn put_system_error<W: Write>(
-    alloc: Global,
-    writer: &mut Output<W>,
-    xid: u32,
-) -> Result<(), SessionFault>
-    ensures { Delivers (λ bytes. IsSystemError xid bytes) (output_state_of W.contents writer.old) result
-        (output_state_of W.contents writer.new) }
-{
-    match reply_bytes(alloc, xid, RpcReply::Refused(Refusal::SystemError)) {
-        Ok(bytes) => write_whole(writer, &bytes),
-        Err(_) => Err(SessionFault::NoMemory),
-    }
+    let bytes = room.spell(alloc, xid, reply);
+    write_whole(writer, &bytes)
 }
 
 // Writes all the bytes and flushes. A write that is interrupted or short goes on. Where a write fails, a

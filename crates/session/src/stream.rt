@@ -38,7 +38,8 @@ pub enum SessionFault {
     /// A write of a reply or the flush behind it failed.
     #[error("Output")]
     Output,
-    /// An allocation failed: for a piece of the input, for a record, or for the bytes of a reply.
+    /// An allocation failed: for a piece of the input, for a record, or for the answer to a record, of which nothing was
+    /// done then.
     #[error("NoMemory")]
     NoMemory,
     /// The input ends inside a record.

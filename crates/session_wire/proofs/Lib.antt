@@ -2,6 +2,7 @@ pub mod Numbered
 pub mod CodedHeaders
 pub mod LastBytes
 mod Capacity
+mod FitsRecords
 mod ShortReplies
 pub mod CallLaws
 pub mod ReplyLaws

@@ -23,7 +23,10 @@ pub use message_laws::{
 };
 pub use mount_replies::mount_reply;
 pub use reply::{append_reply, reply_bytes};
-pub use reply_room::{ReplyRoom, SHORT_REPLY_BYTES, short_replies_fit};
+pub use reply_room::{
+    ReplyRoom, SHORT_REPLY_BYTES, a_short_reply_fits_a_record, short_replies_fit,
+    what_fits_fits_into_more,
+};
 pub use streams::{
     a_closed_connection_gets_no_reply, a_refused_call_gets_its_refusal, a_stream_goes_on,
     each_stream_can_be_served, no_messages_get_no_replies, streams_join, what_is_done_is_served,

@@ -1,9 +1,13 @@
 //! The memory of a reply, which is taken before its call is done.
 ghost use Rattle.std.specs.Prelude.{◌≡◌, ◌≤◌, ◌⊎◌, ℕ, [], true, length as len, vec_capacity, IfErr, IfOk, OnErr, OnOk, alloc_error};
+ghost use Rattle.nfs_lengths.specs.Lengths.{IsShort};
+ghost use Rattle.nfs_types.specs.declared.program.ProgramReply.TheVariants as program_replies;
+ghost use Rattle.nfs_types.specs.declared.reply.Reply.{Reply};
 ghost use Rattle.rpc.specs.Records.{fragment};
 ghost use Rattle.session_wire.specs.Capacity.{FitsIn, RestsOnNothing};
 ghost use Rattle.session_wire.specs.Replies.{IsTooLong, body_of, reply_bytes};
 ghost use Rattle.session_wire.specs.declared.message.ReplyBody.{ReplyBody};
+ghost use Rattle.session_wire.specs.declared.message.ReplyBody.TheVariants as bodies;
 ghost use Rattle.session_wire.specs.declared.reply_room.TheConstants.{SHORT_REPLY_BYTES};
 ghost use Rattle.xdr.specs.declared.fault.XdrFault.TheVariants.{Length, NoMemory};
 
@@ -43,6 +47,13 @@ impl ReplyRoom {
         })
     }
 
+    /// It is the least of it, or more.
+    pub fn is_enough(&self)
+        ensures { SHORT_REPLY_BYTES ≤ self.now }
+    {
+        let _ = &self.bytes;
+    }
+
     /// Grows, where it has to, so that this reply fits, whatever its number. A reply that no record can hold is `Length`;
     /// where memory is refused it is `NoMemory`, with that error, and nothing changes.
     pub fn grow_for(&mut self, alloc: Global, reply: RpcReply) -> Result<(), XdrFault>
@@ -70,6 +81,17 @@ impl ReplyRoom {
         writer.into_bytes()
     }
 }
+
+/// A short reply isn't too long for a record, whatever its number.
+pub fn a_short_reply_fits_a_record()
+    ensures { (reply : Reply) → IsShort reply → (xid : ℕ)
+        → IsTooLong xid (bodies.Done (program_replies.Nfs reply)) → ⊥ }
+{}
+
+/// What fits into memory fits into more.
+pub fn what_fits_fits_into_more()
+    ensures { (less more : ℕ) (body : ReplyBody) → less ≤ more → FitsIn less body → FitsIn more body }
+{}
 
 /// What rests on no commit fits into the least of memory.
 pub fn short_replies_fit()

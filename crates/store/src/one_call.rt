@@ -3,6 +3,8 @@ ghost use Rattle.std.specs.Prelude.{◌≡◌, ◌≤◌, ◌⊎◌, length, tru
 ghost use Rattle.base.specs.declared.TheConstants.{MOST_UNINSTALLED_COMMITS};
 ghost use Rattle.nfs_spec.specs.Model.Sound.{SoundTime};
 ghost use Rattle.nfs_types.specs.Fits.{CallFits};
+ghost use Rattle.session_wire.specs.Capacity.{FitsIn};
+ghost use Rattle.store_workers.specs.Room.{reply_for};
 ghost use Rattle.store_workers.specs.Single.{IsSingle, IsSingleOut, is_full};
 ghost use Rattle.store.specs.Calling.{Answers, HasAnswered, HasStepped, IsCalling, Outset, asked_of};
 ghost use Rattle.store.specs.Driving.{HasGoneOn, IsUnderWay, steps_left, waits_for_log};
@@ -18,6 +20,7 @@ use crate::call_laws::{
 };
 use disk::CrashDisk;
 use nfs_types::{Call, Credential, Moment};
+use session_wire::ReplyRoom;
 use std::alloc::Global;
 use store_images::{Store, has_too_many_uninstalled, settle};
 use store_promise::{
@@ -25,7 +28,7 @@ use store_promise::{
 };
 use store_workers::Worker;
 
-/// Runs a call to its answer. Where the answer waits for its place everything is settled before; where the
+/// Runs a call to its answer, which is given back with its memory: its record fits there. Where the answer waits for its place everything is settled before; where the
 /// log is full, too, and so it is where more than MOST_KEPT_COMMITS commits are kept then, since that brings
 /// home what is logged. NULL is answered without a transaction, and each other call begins one. The call can be
 /// spelled, and comes at a moment of less than a second of nanoseconds. Where the device keeps its model, a store
@@ -39,7 +42,8 @@ pub fn procedure<D: CrashDisk>(
     credential: Credential,
     moment: Moment,
     call: Call,
-) -> Verdict
+    room: ReplyRoom,
+) -> (Verdict, ReplyRoom)
     requires idle { IsIdle store.old.core }
     requires timely { SoundTime moment }
     requires spelled { CallFits call }
@@ -47,26 +51,31 @@ pub fn procedure<D: CrashDisk>(
     ensures boot { store.new.boot ≡ store.old.boot }
     ensures answered { Answers (D.keeps_model store.new.disk)
         (store_of (D.device store.old.disk) store.old.core store.old.boot)
-        (asked_of credential moment call) result
+        (asked_of credential moment call) result.0
         (store_of (D.device store.new.disk) store.new.core store.new.boot) }
+    ensures room { FitsIn result.1 (reply_for result.0) }
     ensures is_preserved { (length store.new.core.records ≤ MOST_UNINSTALLED_COMMITS) ⊎ (store.new.core.log.broken ≡ true) }
     ensures model { D.keeps_model store.new.disk → D.keeps_model store.old.disk }
 {
     a_call_begins();
     let mut worker = Worker::with_alloc_cursor(alloc, store.alloc_cursor);
-    worker.hand(credential, moment, call);
-    let verdict = answer(alloc, store, &mut worker);
+    worker.hand(credential, moment, call, room);
+    let answered = answer(alloc, store, &mut worker);
     store.alloc_cursor = worker.alloc_cursor();
     worker.end(&mut store.core);
     if has_too_many_uninstalled(store) {
         let _ = settle(store);
     }
-    verdict
+    answered
 }
 
 // Drives a worker to the answer of its call.
 #[tactic(auto, using(crate::proofs::Driven::still_under_way, crate::proofs::Driven::less_is_left))]
-fn answer<D: CrashDisk>(alloc: Global, store: &mut Store<D>, worker: &mut Worker) -> Verdict
+fn answer<D: CrashDisk>(
+    alloc: Global,
+    store: &mut Store<D>,
+    worker: &mut Worker,
+) -> (Verdict, ReplyRoom)
     requires fits { Fits worker.old store.old.core }
     requires quiet { IsQuiet store.old.core.log }
     requires single_worker { IsSingle worker.old.state store.old.core }
@@ -78,16 +87,17 @@ fn answer<D: CrashDisk>(alloc: Global, store: &mut Store<D>, worker: &mut Worker
     ensures boot { store.new.boot ≡ store.old.boot }
     ensures answered { (o : Outset) → D.keeps_model store.new.disk
         → IsCalling o (store_of (D.device store.old.disk) store.old.core store.old.boot) worker.old.state
-        → HasAnswered o result (store_of (D.device store.new.disk) store.new.core store.new.boot)
+        → HasAnswered o result.0 (store_of (D.device store.new.disk) store.new.core store.new.boot)
         × (worker.new.state.phase ≡ Idle) }
+    ensures room { FitsIn result.1 (reply_for result.0) }
     ensures model { D.keeps_model store.new.disk → D.keeps_model store.old.disk }
 {
     an_open_store_preserves_its_files();
     a_stop_leaves_a_beginning();
     'steps: loop {
         go_on(alloc, store, worker);
-        if let Some(answered) = worker.take_answer() {
-            return answered.verdict;
+        if let Some((answered, room)) = worker.take_answer() {
+            return (answered.verdict, room);
         }
     }
 }

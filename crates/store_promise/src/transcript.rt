@@ -81,6 +81,17 @@ impl Run {
         result
     }
 
+    /// Notes that memory was refused to the next event, before it was taken.
+    pub fn refuse(&mut self, error: AllocError)
+        ensures boot { self.new.boot ≡ self.old.boot }
+        ensures history { self.new.history ≡ self.old.history }
+        ensures answers { self.new.answers ≡ self.old.answers }
+        ensures steps { self.new.steps ≡ self.old.steps }
+        ensures refused { refusals self.new ≡ refusals self.old + 1 }
+    {
+        self.refused = self.refused.and(&error, &());
+    }
+
     // Makes room to tell of one more event.
     fn reserve(&mut self) -> Result<(), AllocError>
         ensures has_space { OnOk result (HasReserved self.new) }

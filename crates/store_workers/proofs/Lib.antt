@@ -23,3 +23,4 @@ pub mod ShareCore
 pub mod Above
 pub mod Halved
 mod PreparedPlans
+mod Roomy

@@ -7,6 +7,7 @@ pub mod Traces
 pub mod Tracing
 pub mod Phases
 pub mod Prepared
+pub mod Room
 pub mod Seen
 pub mod SourceReads
 pub mod Stages

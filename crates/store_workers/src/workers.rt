@@ -7,6 +7,7 @@ mod last_entry;
 mod parts;
 mod plan_steps;
 mod prepared;
+mod rooms;
 mod run_reports;
 mod sourced;
 mod steps;
@@ -14,6 +15,7 @@ mod trace;
 
 ghost use Rattle.std.specs.Prelude.{◌≡◌, true, is_some};
 ghost use Rattle.store_workers.specs.Phases.{has_fetch, has_transaction, is_ready};
+ghost use Rattle.store_workers.specs.Room.{HasRoom};
 ghost use Rattle.store_workers.specs.Stages.{HasSoundJob};
 
 use asked::Asked;
@@ -24,28 +26,34 @@ use nfs_types::{Call, Credential, Ctx, Moment};
 use parts::{Begun, Job, Phase, State, Work};
 use prepared::Prepared;
 use procs::{CommitWitness, Done};
+use rooms::{Rooms, is_answer};
 pub use run_reports::{
     a_run_traces_its_workers_steps, a_worker_tells_its_call, a_worker_tells_its_read,
     a_worker_tells_its_steps,
 };
+use session_wire::{ReplyRoom, short_replies_fit, what_fits_fits_into_more};
 use std::alloc::Global;
 use store_promise::{CallAnswer, Entry, Step};
 use trace::Trace;
 use txn::Core;
 
 /// A worker: the state of one procedure. What its steps commit and answer lies ready to be taken. Its type
-/// keeps that it has what it needs to go on, and that its call can be spelled.
+/// keeps that it has what it needs to go on, that its call can be spelled, and that there is memory for its answer.
 pub struct Worker {
     state: Prepared,
+    rooms: Rooms,
     pub ghost transaction: { is_some state.begun.tx ≡ has_transaction state.phase },
     pub ghost fetch: { is_some state.begun.io ≡ has_fetch state.phase },
     pub ghost ready: { is_ready state.phase state.work ≡ true },
     pub ghost asked: { ∥ HasSoundJob state ∥₁ },
+    pub ghost room: { HasRoom state rooms },
 }
 
 impl Worker {
-    ghost use Rattle.std.specs.Prelude.{◌≡◌, ◌↔◌, ◌<◌, IfSome, IsTrue, IsFalse, IsSome, None, MatchOption, []};
+    ghost use Rattle.std.specs.Prelude.{◌≡◌, ◌↔◌, ◌<◌, IfSome, IsTrue, IsFalse, IsSome, None, MatchOption, option_map, []};
     ghost use Rattle.txn.specs.Core.{CoreState};
+    ghost use Rattle.session_wire.specs.Capacity.{FitsIn};
+    ghost use Rattle.store_workers.specs.Room.{reply_for};
     ghost use Rattle.store_workers.specs.declared.workers.parts.Phase.TheVariants.{Again, Idle, Planning};
     ghost use Rattle.store_workers.specs.declared.workers.parts.Phase.TheVariants.{Reading};
     ghost use Rattle.store_images.specs.Counts.{SameFrame};
@@ -94,6 +102,7 @@ impl Worker {
                 asked: Asked::new(alloc_cursor),
                 known: Known::new(alloc),
             }),
+            rooms: Rooms::none(),
         }
     }
 
@@ -122,10 +131,16 @@ impl Worker {
         Some(io.block())
     }
 
-    /// Hands a worker a call that can be spelled, at a moment of less than a second of nanoseconds, and answers
-    /// whether it took it: a busy one does nothing. Its boot number and its transaction are those of the core that
-    /// begins it.
-    pub fn hand(&mut self, credential: Credential, moment: Moment, call: Call) -> bool
+    /// Hands a worker a call that can be spelled, at a moment of less than a second of nanoseconds, with memory for its
+    /// reply, and answers whether it took it: a busy one does nothing. Its boot number and its transaction are those of
+    /// the core that begins it.
+    pub fn hand(
+        &mut self,
+        credential: Credential,
+        moment: Moment,
+        call: Call,
+        room: ReplyRoom,
+    ) -> bool
         requires timely { SoundTime moment }
         requires spelled { CallFits call }
         ensures fits { (core : CoreState) → Fits self.old core → Fits self.new core }
@@ -143,6 +158,8 @@ impl Worker {
             boot: 0,
             transaction: 0,
         };
+        room.is_enough();
+        self.rooms.take_call(room);
         self.state.plan = None;
         self.state.state.take_call(ctx, call);
         true
@@ -251,7 +268,13 @@ impl Worker {
         ensures home { PreservesHomeOf (worker_and_core self.old.state core.old) (worker_and_core self.new.state core.new) }
         ensures stays { PreservesReadsOf (worker_and_core self.old.state core.old) (worker_and_core self.new.state core.new) }
     {
-        self.state.step(alloc, core, trace)
+        short_replies_fit();
+        what_fits_fits_into_more();
+        let made = self.state.step(alloc, core, trace, &mut self.rooms.call);
+        if is_answer(&made, self.state.state.phase) {
+            self.rooms.lie_ready();
+        }
+        made
     }
 
     /// Has a call that plans begin again with the next step, as one that knows nothing.
@@ -268,15 +291,21 @@ impl Worker {
         }
     }
 
-    /// Takes the answer that the last step gave, if it gave one. All that the step gave is told then.
-    pub fn take_answer(&mut self) -> Option<CallAnswer>
-        ensures result { result ≡ self.old.state.work.answer }
+    /// Takes the answer that the last step gave, if it gave one, with memory into which its record fits. All that the step
+    /// gave is told then.
+    pub fn take_answer(&mut self) -> Option<(CallAnswer, ReplyRoom)>
+        ensures result { option_map (λ given. given.0) result ≡ self.old.state.work.answer }
+        ensures room { IfSome result (λ given. FitsIn given.1 (reply_for given.0.verdict)) }
         ensures rest { self.new.state ≡ reported self.old.state }
         ensures fits { (core : CoreState) → Fits self.old core → Fits self.new core }
     {
         self.state.plan = None;
         self.state.state.work.entry = LastEntry::none();
-        self.state.state.work.answer.take()
+        let answer = self.state.state.work.answer.take()?;
+        match self.rooms.ready.take() {
+            Some(room) => Some((answer, room)),
+            None => unreachable!(),
+        }
     }
 
     /// Ends the worker, and gives back what it has begun: its transaction, and the read that is due or was
@@ -289,7 +318,8 @@ impl Worker {
         ensures idle { self.state.phase ≡ Idle → core.new ≡ core.old }
         ensures gives_back { GivesAllBack self.state.begun core.old core.new }
     {
-        let Worker { state } = self;
+        let Worker { state, rooms } = self;
+        drop(rooms);
         let Prepared { state, plan: _ } = state;
         let State {
             phase: _,

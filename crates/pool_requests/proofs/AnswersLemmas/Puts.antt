@@ -25,6 +25,13 @@ one_more key number bytes put answer was own =
       own = All-append (IsFor key number) before (answer ∷ []) was.own (All-cons (IsFor key number) answer [] own (All-nil (IsFor key number)));
     })
 
+pub only_one : (key number : ℕ) (answer : Answered) → IsFor key number answer
+    → IsWritten key number (spelled answer) (answer ∷ [])
+only_one key number answer own = record {
+  bytes_are = flat_map_more spelled [] [] answer;
+  own = All-cons (IsFor key number) answer [] own (All-nil (IsFor key number));
+}
+
 pub one_piece : (key number : ℕ) (bytes : List ℕ) (put : List (Written × Unit {0})) (piece : Written)
     → IsWritten key number bytes (flat_map (λ one. one.0.answers) put)
     → piece.key ≡ key → piece.number ≡ number → IsWritten piece.key piece.number piece.bytes piece.answers

@@ -7,19 +7,20 @@ use crate::jobs::{Immediate, ReplyAddress};
 use nfs_types::{ProgramReply, Reply};
 use procs::CommitWitness;
 use rpc::Refusal;
-use session_wire::{ReplyBody, RpcReply, append_reply};
+use session_wire::{
+    ReplyBody, ReplyRoom, RpcReply, short_replies_fit, what_fits_fits_into_more,
+};
 use std::alloc::{AllocError, Global};
 use std::marker::{Model, PhantomData};
 use std::snapshot::Snapshot;
 use std::sync::ledger::{Ledger, Share};
 use txn::Stable;
-use xdr::XdrFault;
 
 /// An answer to a record of a connection. Its type keeps that it bears the key and the numbers of what it answers, and
 /// that this may be answered so: with the reply to a record that begins no transaction; with the reply of the job's own
 /// procedure, which was committed, and whose place was settled where the reply has to be stable; with IO or SERVERFAULT
 /// in its place; or with a system error, made of a refusal of memory. It is made of evidence alone, each piece of which is used up for it. Its type names the ledger of
-/// the commits that it may rest on: that of one core.
+/// the commits that it may rest on: that of one core. It has memory into which its record fits.
 #[derive(Drop)]
 pub struct Answer<L: Ledger> {
     key: usize,
@@ -27,6 +28,7 @@ pub struct Answer<L: Ledger> {
     xid: u32,
     body: ReplyBody,
     evidence: Evidence,
+    room: ReplyRoom,
     of: PhantomData<L>,
 }
 
@@ -43,17 +45,20 @@ impl<L: Ledger> Model for Answer<L> {
       evidence = a.evidence;
     } };
 
+    ghost use Rattle.std.specs.Prelude.{◌×◌};
+    ghost use Rattle.session_wire.specs.Capacity.{FitsIn};
+
     ghost invariant = { λ a. IsEvident (record {
       key = a.key;
       number = a.number;
       xid = a.xid;
       body = a.body;
       evidence = a.evidence;
-    }) };
+    }) × FitsIn a.room a.body };
 }
 
 impl<L: Ledger> Answer<L> {
-    ghost use Rattle.std.specs.Prelude.{◌≡◌, ◌⊎◌, ◌++◌, false, true, Option, IfErr, OnErr, OnOk, alloc_error};
+    ghost use Rattle.std.specs.Prelude.{◌≡◌, false, true, Option};
     ghost use Rattle.nfs_spec.specs.Model.Calls.{begins_transaction};
     ghost use Rattle.nfs_types.specs.declared.reply.Reply.TheVariants.{Null};
     ghost use Rattle.pool_requests.specs.Answers.Evident.{IsEvident, IsSubstitute, IsOwn, IsShownStable, answer_to};
@@ -61,9 +66,8 @@ impl<L: Ledger> Answer<L> {
     ghost use Rattle.pool_requests.specs.Answers.Written.{spelled};
     ghost use Rattle.pool_requests.specs.declared.answers.evidence.Evidence.TheVariants as evidence;
     ghost use Rattle.rpc.specs.declared.refusal.Refusal.TheVariants.{SystemError};
-    ghost use Rattle.session_wire.specs.Replies.{IsTooLong};
+    ghost use Rattle.session_wire.specs.Capacity.{FitsIn};
     ghost use Rattle.session_wire.specs.declared.message.ReplyBody.TheVariants as body;
-    ghost use Rattle.xdr.specs.declared.fault.XdrFault.TheVariants.{Length, NoMemory};
 
     /// The reply to a record that begins no transaction.
     pub fn immediate(replied: Immediate) -> Answer<L>
@@ -74,12 +78,17 @@ impl<L: Ledger> Answer<L> {
         let evidence = Evidence::Immediate(Snapshot::of(&replied));
         let (key, number) = replied.goes_to();
         let xid = replied.xid();
+        let (body, room) = replied.into_parts();
+        room.is_enough();
+        short_replies_fit();
+        what_fits_fits_into_more();
         Answer {
             key,
             number,
             xid,
-            body: replied.into_body(),
+            body,
             evidence,
+            room,
             of: PhantomData,
         }
     }
@@ -91,11 +100,13 @@ impl<L: Ledger> Answer<L> {
         witness: CommitWitness,
         stable: Option<Stable>,
         reply: Reply,
+        room: ReplyRoom,
         share: &Share<L>,
     ) -> Answer<L>
         requires own { IsOwn reply_address witness.change }
         requires reply { reply ≡ witness.change.reply }
         requires stable { IsShownStable reply_address witness stable }
+        requires room { FitsIn room (with_reply reply) }
         ensures { result ≡ answer_to reply_address.job (with_reply reply) (evidence.Committed reply_address witness stable) }
     {
         let _ = share;
@@ -107,13 +118,20 @@ impl<L: Ledger> Answer<L> {
             xid: reply_address.xid(),
             body: ReplyBody::Done(ProgramReply::Nfs(reply)),
             evidence: Evidence::Committed(reply_address, witness, stable),
+            room,
             of: PhantomData,
         }
     }
 
     /// IO or SERVERFAULT in the place of a reply. Who makes it has a share of the ledger of commits, as above.
-    pub fn substitute(reply_address: ReplyAddress, body: ReplyBody, share: &Share<L>) -> Answer<L>
-        requires { IsSubstitute reply_address.job.call body }
+    pub fn substitute(
+        reply_address: ReplyAddress,
+        body: ReplyBody,
+        room: ReplyRoom,
+        share: &Share<L>,
+    ) -> Answer<L>
+        requires substitute { IsSubstitute reply_address.job.call body }
+        requires room { FitsIn room body }
         ensures { result ≡ answer_to reply_address.job body (evidence.Substitute reply_address) }
     {
         let _ = share;
@@ -124,12 +142,19 @@ impl<L: Ledger> Answer<L> {
             xid: reply_address.xid(),
             body,
             evidence: Evidence::Substitute(reply_address),
+            room,
             of: PhantomData,
         }
     }
 
     /// A system error, as memory was refused to the job. Who makes it has a share of the ledger of commits, as above.
-    pub fn lacking(reply_address: ReplyAddress, error: AllocError, share: &Share<L>) -> Answer<L>
+    pub fn lacking(
+        reply_address: ReplyAddress,
+        error: AllocError,
+        room: ReplyRoom,
+        share: &Share<L>,
+    ) -> Answer<L>
+        requires { FitsIn room (body.Refused SystemError) }
         ensures { result ≡ answer_to reply_address.job (body.Refused SystemError) (evidence.Lacking reply_address error) }
     {
         let _ = share;
@@ -140,13 +165,19 @@ impl<L: Ledger> Answer<L> {
             xid: reply_address.xid(),
             body: ReplyBody::Refused(Refusal::SystemError),
             evidence: Evidence::Lacking(reply_address, error),
+            room,
             of: PhantomData,
         }
     }
 
     /// To a job whose call begins no transaction. Who makes it has a share of the ledger of commits, as above.
-    pub fn of_nothing(reply_address: ReplyAddress, share: &Share<L>) -> Answer<L>
-        requires { begins_transaction reply_address.job.call ≡ false }
+    pub fn of_nothing(
+        reply_address: ReplyAddress,
+        room: ReplyRoom,
+        share: &Share<L>,
+    ) -> Answer<L>
+        requires begins_none { begins_transaction reply_address.job.call ≡ false }
+        requires room { FitsIn room (with_reply Null) }
         ensures { result ≡ answer_to reply_address.job (with_reply Null) (evidence.Nothing reply_address) }
     {
         let _ = share;
@@ -157,6 +188,7 @@ impl<L: Ledger> Answer<L> {
             xid: reply_address.xid(),
             body: ReplyBody::Done(ProgramReply::Nfs(Reply::Null)),
             evidence: Evidence::Nothing(reply_address),
+            room,
             of: PhantomData,
         }
     }
@@ -175,14 +207,11 @@ impl<L: Ledger> Answer<L> {
         (self.key, self.number)
     }
 
-    /// Puts the answer behind other bytes, as a record of one fragment. One that has a length of 2^32 or more in it, or
-    /// 2^31 bytes in all, is `Length`; where memory is refused it is `NoMemory`. Where it fails nothing changes.
-    pub(crate) fn append_to(&self, alloc: Global, out: &mut Vec<u8>) -> Result<(), XdrFault>
-        ensures ok { OnOk result (out.new.items ≡ out.old.items ++ spelled self.now) }
-        ensures err { IfErr result (λ e. ((e ≡ Length) × IsTooLong self.now.xid self.now.body) ⊎ (e ≡ NoMemory alloc_error)) }
-        ensures refused { OnErr result (out.new.items ≡ out.old.items) }
+    /// The answer as a record of one fragment, in its own memory: none is taken for it.
+    pub(crate) fn into_bytes(self, alloc: Global) -> Vec<u8>
+        ensures { result.items ≡ spelled self }
     {
-        append_reply(alloc, out, self.xid, reply_of(&self.body))
+        self.room.spell(alloc, self.xid, reply_of(&self.body))
     }
 }
 

@@ -1,9 +1,9 @@
 //! The bytes of answers to one connection.
-ghost use Rattle.std.specs.Prelude.{◌≡◌};
+ghost use Rattle.std.specs.Prelude.{◌≡◌, ◌++◌, OnErr, OnOk};
 
 use crate::answers::Answer;
 use http_server::Log;
-use std::alloc::Global;
+use std::alloc::{AllocError, Global};
 use std::marker::Model;
 use std::sync::ledger::Ledger;
 
@@ -39,7 +39,7 @@ pub enum Put {
     Done,
     /// It is for another connection.
     Another,
-    /// Memory was refused, or the answer is too long for a record.
+    /// Memory was refused.
     Refused,
 }
 
@@ -81,7 +81,29 @@ impl<L: Ledger> ReplyBytes<L> {
         self.bytes.as_slice()
     }
 
-    /// Puts an answer behind the others, where it is for this connection. Else nothing changes.
+    /// The bytes of an answer, in the memory that it brings: none is taken for them.
+    #[tactic(auto, using(crate::proofs::AnswersLemmas::Puts::only_one))]
+    pub fn of(alloc: Global, answer: Answer<L>) -> ReplyBytes<L>
+        ensures { result ≡ record {
+          key = answer.key;
+          number = answer.number;
+          bytes = spelled answer;
+          answers = answer ∷ [];
+        } }
+    {
+        let (key, number) = answer.goes_to();
+        let answers = Log::new().and(&answer, &());
+        ReplyBytes {
+            key,
+            number,
+            bytes: answer.into_bytes(alloc),
+            answers,
+        }
+    }
+
+    /// Puts an answer behind the others, where it is for this connection. Else nothing changes. The first is put in the
+    /// memory that it brings.
+    #[tactic(auto, using(crate::proofs::AnswersLemmas::Puts::one_more))]
     pub fn put(&mut self, alloc: Global, answer: Answer<L>) -> Put
         ensures done { result ≡ puts.Done → IsFor self.old.key self.old.number answer × (self.new ≡ record self.old {
           bytes = self.old.bytes ++ spelled answer;
@@ -90,32 +112,17 @@ impl<L: Ledger> ReplyBytes<L> {
         ensures another { result ≡ puts.Another → (IsFor self.old.key self.old.number answer → ⊥) }
         ensures is_preserved { (result ≡ puts.Another) ⊎ (result ≡ puts.Refused) → self.new ≡ self.old }
     {
-        let put = self.put_one(alloc, &answer);
-        drop(answer);
-        put
-    }
-
-    // The same of an answer that the caller lets go of.
-    #[tactic(auto, using(crate::proofs::AnswersLemmas::Puts::one_more))]
-    fn put_one(&mut self, alloc: Global, answer: &Answer<L>) -> Put
-        ensures done { result ≡ puts.Done → IsFor self.old.key self.old.number answer.now × (self.new ≡ record self.old {
-          bytes = self.old.bytes ++ spelled answer.now;
-          answers = self.old.answers ++ answer.now ∷ [];
-        }) }
-        ensures another { result ≡ puts.Another → (IsFor self.old.key self.old.number answer.now → ⊥) }
-        ensures is_preserved { (result ≡ puts.Another) ⊎ (result ≡ puts.Refused) → self.new ≡ self.old }
-    {
         let (key, number) = answer.goes_to();
         if key != self.key || number != self.number {
             return Put::Another;
         }
-        match answer.append_to(alloc, &mut self.bytes) {
-            Ok(()) => {
-                self.answers = self.answers.and(answer, &());
-                Put::Done
-            }
-            Err(_) => Put::Refused,
+        let answers = self.answers.and(&answer, &());
+        let bytes = answer.into_bytes(alloc);
+        if behind(&mut self.bytes, bytes).is_err() {
+            return Put::Refused;
         }
+        self.answers = answers;
+        Put::Done
     }
 
     /// Lets go of all.
@@ -132,4 +139,16 @@ impl<L: Ledger> ReplyBytes<L> {
     {
         let _ = &self.bytes;
     }
+}
+
+// Puts bytes behind others: where there are none, they are these.
+fn behind(bytes: &mut Vec<u8>, more: Vec<u8>) -> Result<(), AllocError>
+    ensures ok { OnOk result (bytes.new.items ≡ bytes.old.items ++ more.items) }
+    ensures err { OnErr result (bytes.new.items ≡ bytes.old.items) }
+{
+    if bytes.is_empty() {
+        *bytes = more;
+        return Ok(());
+    }
+    bytes.extend_from_slice(more.as_slice())
 }

@@ -1,13 +1,14 @@
 //! The reply to a record that begins no transaction.
 
 use bytes::Bytes;
-use session_wire::ReplyBody;
+use session_wire::{ReplyBody, ReplyRoom};
 use std::alloc::AllocError;
 use std::marker::Model;
 use std::snapshot::Snapshot;
 
 /// The reply to a record of the connection of this key and number that begins no transaction. Only `Stream::next` makes
-/// one. Its type keeps that it is what the record is answered, a system error only with a refusal of memory.
+/// one. Its type keeps that it is what the record is answered, a system error only with a refusal of memory. It has the
+/// memory that the record brought.
 #[derive(Drop)]
 pub struct Immediate {
     pub(crate) key: usize,
@@ -15,6 +16,7 @@ pub struct Immediate {
     pub(crate) xid: u32,
     pub(crate) body: ReplyBody,
     pub(crate) lacked: Option<AllocError>,
+    pub(crate) room: ReplyRoom,
     pub(crate) message: Snapshot<Bytes>,
 }
 
@@ -60,10 +62,10 @@ impl Immediate {
         self.xid
     }
 
-    /// What it tells.
-    pub fn into_body(self) -> ReplyBody
-        ensures { result ≡ self.body }
+    /// What it tells, and the memory for it.
+    pub fn into_parts(self) -> (ReplyBody, ReplyRoom)
+        ensures { result.0 ≡ self.body }
     {
-        self.body
+        (self.body, self.room)
     }
 }

@@ -10,7 +10,7 @@ use crate::jobs::{Immediate, Job};
 use bytes::Bytes;
 use nfs_types::{MountCall, ProgramCall, ProgramReply, Reply};
 use rpc::Refusal;
-use session_wire::{Judged, Lacking, ReplyBody, judge, mount_reply};
+use session_wire::{Judged, Lacking, ReplyBody, ReplyRoom, judge, mount_reply};
 use std::alloc::{AllocError, Global};
 use std::snapshot::Snapshot;
 
@@ -25,9 +25,15 @@ pub enum Received {
     Job(Job),
 }
 
-/// Receives a message, a whole record of the connection of this key and number.
+/// Receives a message, a whole record of the connection of this key and number, with memory for its answer.
 #[tactic(auto, using(crate::proofs::JobsLemmas::Judgements::refused, crate::proofs::JobsLemmas::Judgements::lacks))]
-pub(crate) fn receive(alloc: Global, key: usize, number: u64, message: &Bytes) -> Received
+pub(crate) fn receive(
+    alloc: Global,
+    key: usize,
+    number: u64,
+    message: &Bytes,
+    room: ReplyRoom,
+) -> Received
     ensures { IsReceived key number message.now result }
 {
     are_bytes(message);
@@ -38,6 +44,7 @@ pub(crate) fn receive(alloc: Global, key: usize, number: u64, message: &Bytes) -
             xid,
             body: ReplyBody::Refused(Refusal::SystemError),
             lacked: Some(error),
+            room,
             message: Snapshot::of(message),
         }),
         Ok(Judged::Closed) => Received::Closed,
@@ -47,6 +54,7 @@ pub(crate) fn receive(alloc: Global, key: usize, number: u64, message: &Bytes) -
             xid,
             body: ReplyBody::Refused(refusal),
             lacked: None,
+            room,
             message: Snapshot::of(message),
         }),
         Ok(
@@ -64,6 +72,7 @@ pub(crate) fn receive(alloc: Global, key: usize, number: u64, message: &Bytes) -
                     xid,
                     body,
                     lacked,
+                    room,
                     message: Snapshot::of(message),
                 })
             }
@@ -75,6 +84,7 @@ pub(crate) fn receive(alloc: Global, key: usize, number: u64, message: &Bytes) -
                         xid,
                         body: ReplyBody::Done(ProgramReply::Nfs(Reply::Null)),
                         lacked: None,
+                        room,
                         message: Snapshot::of(message),
                     });
                 }
@@ -84,6 +94,7 @@ pub(crate) fn receive(alloc: Global, key: usize, number: u64, message: &Bytes) -
                     xid,
                     credential,
                     call,
+                    room,
                     message: Snapshot::of(message),
                 })
             }

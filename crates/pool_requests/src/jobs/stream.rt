@@ -5,6 +5,7 @@ use crate::jobs::received::{Received, receive};
 use bytes::Bytes;
 use http_server::Log;
 use rpc::{Records, RpcFault};
+use session_wire::ReplyRoom;
 use std::alloc::{AllocError, Global};
 use std::marker::Model;
 use std::snapshot::Snapshot;
@@ -85,8 +86,8 @@ impl Stream {
         Ok(())
     }
 
-    /// Receives the next record, if it has come whole. Where the next record can't be cut out, as it is too long or
-    /// memory is refused, nothing changes.
+    /// Receives the next record, if it has come whole, with memory for its answer, which is taken before the record is
+    /// looked at. Where the next record can't be cut out, as it is too long or memory is refused, nothing changes.
     pub fn next(&mut self, alloc: Global) -> Result<Option<Received>, RpcFault>
         ensures found { IfOk result (λ o. IfSome o (λ received. ReceivesNext self.old received self.new)) }
         ensures nothing { IfOk result (λ o. IfNone o (self.new ≡ self.old)) }
@@ -94,10 +95,14 @@ impl Stream {
         ensures err { OnErr result (self.new ≡ self.old) }
         ensures too_long { IsErrOf result fault.TooLong → IsTooLong self.old.left }
     {
+        let room = match ReplyRoom::new(alloc) {
+            Ok(room) => room,
+            Err(error) => return Err(RpcFault::NoMemory(error)),
+        };
         match self.records.next()? {
             None => Ok(None),
             Some(message) => {
-                let received = receive(alloc, self.key, self.number, &message);
+                let received = receive(alloc, self.key, self.number, &message, room);
                 self.received = self.received.and(&message, &());
                 Ok(Some(received))
             }

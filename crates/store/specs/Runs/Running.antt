@@ -1,6 +1,6 @@
 -- What is true of a run that goes on.
 use Rattle.std.specs.Prelude.{◌≡◌, ℕ, ◌+◌, ◌-◌, ◌^◌, All, Bool, List, Option, Some, None, IfSome, if◌then◌else◌, map}
-use Rattle.std.specs.Prelude.{min}
+use Rattle.std.specs.Prelude.{min, true, is_some}
 use Rattle.disk.specs.Device.{Device, current}
 use Rattle.disk.specs.declared.block.Side.{Side}
 use Rattle.disk.specs.declared.block.Side.TheVariants as sides
@@ -8,6 +8,8 @@ use Rattle.wal_calls.specs.declared.callers.caller.Caller.{Caller}
 use Rattle.txn.specs.Core.{CoreState}
 use Rattle.wal.specs.Io.{Io, IsCallWithin}
 use Rattle.circ.specs.Log.Calls.{Pending}
+use Rattle.store_promise.specs.declared.events.Event.{Event}
+use Rattle.store_promise.specs.declared.events.Event.TheVariants as event
 use Rattle.store_promise.specs.declared.events.Step.{Step}
 use Rattle.store_promise.specs.DeviceCalls.{DoesStep}
 use Rattle.store_promise.specs.Running.{StoreState}
@@ -28,6 +30,11 @@ store_state_of device core calls = record {
   logging = pending_of calls.logger.io calls.logger.made;
   installing = pending_of calls.installer.io calls.installer.made;
 }
+
+-- a call brings memory for its reply
+abbrev pub HasRoomFor : Event → Option ℕ → Type 0
+HasRoomFor (event.Call worker credential moment call) room = is_some room ≡ true
+HasRoomFor _ room = Unit {0}
 
 -- a step does the call that the log, or the installer, has out, or nothing
 abbrev pub DoesItsStep : StoreState → Option Step → StoreState → Type 0

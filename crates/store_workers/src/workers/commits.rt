@@ -4,9 +4,11 @@ ghost use Rattle.store_promise.specs.declared.events.Committing.TheVariants as c
 
 use super::last_entry::LastEntry;
 use super::parts::{Job, Phase, State};
+use super::rooms::grow_for;
 use super::trace::Trace;
 use nfs_types::{Reply, Status};
 use procs::{CommitWitness, Done, is_answered_stable, refused_reply};
+use session_wire::ReplyRoom;
 use std::alloc::Global;
 use std::snapshot::Snapshot;
 use store_promise::{Cause, Changed, Committing, Step, Verdict};
@@ -17,6 +19,7 @@ impl State {
     ghost use Rattle.nfs_spec.specs.Model.Calls.{is_answered_stable};
     ghost use Rattle.store_images.specs.Counts.{SameFrame};
     ghost use Rattle.procs.specs.Outcome.{IsMadeFor};
+    ghost use Rattle.store_workers.specs.Room.{HasGrown, HasLeastRoom};
     ghost use Rattle.store_workers.specs.Traces.{IsTraced, committed_as, copied};
     ghost use Rattle.store_workers.specs.Witnessed.{IsWitnessed, PreservesWitness};
     ghost use Rattle.store_workers.specs.Worker.{IsSound, IsHeld};
@@ -26,7 +29,8 @@ impl State {
     ghost use Rattle.txn.specs.CoreWindow.{PreservesHome, PreservesReads};
     ghost use Rattle.txn.specs.Outcomes.{IsGiven};
 
-    // Commits what the plan ended in. The copy of its reply that a note needs is made before.
+    // Commits what the plan ended in. The copy of its reply that a note needs is made before, and memory for the reply's
+    // record is taken before: where that is refused the transaction is ended.
     pub(super) fn commit(
         &mut self,
         alloc: Global,
@@ -34,14 +38,17 @@ impl State {
         tx: Tx,
         done: Done,
         trace: &mut Trace,
+        room: &mut Option<ReplyRoom>,
     ) -> Step
         requires held { IsHeld self.old }
+        requires room { HasLeastRoom room.old }
         requires made { IfSome self.old.work.job (λ job. IsMadeFor job.ctx job.call done) }
         ensures sound { IsSound self.new }
         ensures frame { SameFrame core.old core.new }
         ensures step { EndsBy tx done (worker_and_core self.old core.old) result (worker_and_core self.new core.new) }
         ensures trace { IsTraced (Some result) self.new trace.old trace.new }
         ensures witnessed { IsWitnessed (Some result) self.new trace.old trace.new }
+        ensures room { HasGrown (Some result) self.new room.old room.new }
         ensures home { PreservesHome core.old core.new }
         ensures stays { (other : ℕ) → (other ≡ tx → ⊥) → PreservesReads core.old core.new other }
     {
@@ -49,6 +56,9 @@ impl State {
             Ok(copy) => copy,
             Err(error) => return self.lack(core, tx, error),
         };
+        if let Err(error) = grow_for(alloc, room, &done) {
+            return self.lack(core, tx, error);
+        }
         done.finished();
         let plan = Snapshot::of(&done);
         let blocks = Changed::of(&blocks_of_objects(done.written()));

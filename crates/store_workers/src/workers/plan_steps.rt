@@ -9,6 +9,7 @@ use crate::options::put;
 use disk::BlockNo;
 use objects::{Addr, Mode, SharedBytes};
 use procs::{Done, Plan};
+use session_wire::ReplyRoom;
 use std::alloc::{AllocError, Global};
 use store_promise::{Cause, Ending, LockAnswer, LockRequest, Step, Verdict};
 use txn::{Claim, Core, Tx, Want};
@@ -22,6 +23,7 @@ impl State {
     ghost use Rattle.store_workers.specs.Traces.{IsTraced};
     ghost use Rattle.store_workers.specs.Witnessed.{IsWitnessed};
     ghost use Rattle.store_workers.specs.Prepared.{HasReserved, HasReservedFor, IsPrepared, is_planning};
+    ghost use Rattle.store_workers.specs.Room.{HasGrown, HasLeastRoom};
     ghost use Rattle.store_workers.specs.Seen.{seen_in};
     ghost use Rattle.store_workers.specs.Stages.{HasSoundJob};
     ghost use Rattle.store_workers.specs.Worker.{IsSound, HasBytes, IsHeld};
@@ -42,8 +44,10 @@ impl State {
         core: &mut Core<Done>,
         trace: &mut Trace,
         plan: Option<Plan>,
+        room: &mut Option<ReplyRoom>,
     ) -> Step
         requires sound { IsSound self.old }
+        requires room { HasLeastRoom room.old }
         requires asked { ∥ HasSoundJob self.old ∥₁ }
         requires phase { self.old.phase ≡ Planning }
         requires prepared { IfSome plan (λ plan. IsPrepared self.old plan) }
@@ -53,12 +57,13 @@ impl State {
             ⊎ TakesAgain (worker_and_core self.old core.old) result (worker_and_core self.new core.new) }
         ensures trace { IsTraced (Some result) self.new trace.old trace.new }
         ensures witnessed { IsWitnessed (Some result) self.new trace.old trace.new }
+        ensures room { HasGrown (Some result) self.new room.old room.new }
         ensures home { PreservesHome core.old core.new }
         ensures stays { PreservesReadsOf (worker_and_core self.old core.old) (worker_and_core self.new core.new) }
     {
         match self.known.next() {
             Some(next) => self.take_again(alloc, core, next),
-            None => self.go_by_plan(alloc, core, trace, plan),
+            None => self.go_by_plan(alloc, core, trace, plan, room),
         }
     }
 
@@ -87,8 +92,10 @@ impl State {
         core: &mut Core<Done>,
         trace: &mut Trace,
         plan: Option<Plan>,
+        room: &mut Option<ReplyRoom>,
     ) -> Step
         requires sound { IsSound self.old }
+        requires room { HasLeastRoom room.old }
         requires asked { ∥ HasSoundJob self.old ∥₁ }
         requires phase { self.old.phase ≡ Planning }
         requires none { self.old.known.left ≡ [] }
@@ -98,6 +105,7 @@ impl State {
         ensures step { GoesByPlan (worker_and_core self.old core.old) result (worker_and_core self.new core.new) }
         ensures trace { IsTraced (Some result) self.new trace.old trace.new }
         ensures witnessed { IsWitnessed (Some result) self.new trace.old trace.new }
+        ensures room { HasGrown (Some result) self.new room.old room.new }
         ensures home { PreservesHome core.old core.new }
         ensures stays { PreservesReadsOf (worker_and_core self.old core.old) (worker_and_core self.new core.new) }
     {
@@ -106,7 +114,7 @@ impl State {
         match next {
             Plan::Need(addr, mode) => self.want(alloc, core, tx, addr, mode),
             Plan::Claim(block) => self.claim(core, tx, block),
-            Plan::Done(done) => self.commit(alloc, core, tx, done, trace),
+            Plan::Done(done) => self.commit(alloc, core, tx, done, trace, room),
             Plan::NoMemory(error) => self.lack(core, tx, error),
         }
     }

@@ -6,6 +6,7 @@ use super::parts::State;
 use super::trace::Trace;
 use nfs_types::Call;
 use procs::{Done, Plan};
+use session_wire::ReplyRoom;
 use std::alloc::Global;
 use std::marker::Model;
 use store_promise::Step;
@@ -37,11 +38,13 @@ impl Model for Prepared {
 impl Prepared {
     ghost use Rattle.store_images.specs.Counts.{SameFrame};
     ghost use Rattle.store_workers.specs.Prepared.{plans_long};
+    ghost use Rattle.store_workers.specs.Room.{HasGrown, HasLeastRoom};
     ghost use Rattle.store_workers.specs.Seen.{seen_in};
     ghost use Rattle.store_workers.specs.Stages.{HasSoundJob};
     ghost use Rattle.store_workers.specs.Traces.{IsTraced};
     ghost use Rattle.store_workers.specs.Witnessed.{IsWitnessed};
     ghost use Rattle.store_workers.specs.Worker.{IsSound};
+    ghost use Rattle.store_workers.specs.declared.workers.parts.Phase.TheVariants.{Planning};
     ghost use Rattle.store_workers.specs.WorkerSteps.{GoesOn, PreservesHomeOf, PreservesReadsOf, with_snap, worker_and_core};
 
     // A state for which no plan was made.
@@ -89,19 +92,22 @@ impl Prepared {
         alloc: Global,
         core: &mut Core<Done>,
         trace: &mut Trace,
+        room: &mut Option<ReplyRoom>,
     ) -> Option<Step>
         requires sound { IsSound self.old }
+        requires room { self.old.phase ≡ Planning → HasLeastRoom room.old }
         requires asked { ∥ HasSoundJob self.old ∥₁ }
         ensures sound { IsSound self.new }
         ensures frame { SameFrame core.old core.new }
         ensures step { GoesOn self.old.phase (worker_and_core self.old core.old) result (worker_and_core self.new core.new) }
         ensures trace { IsTraced result self.new trace.old trace.new }
         ensures witnessed { IsWitnessed result self.new trace.old trace.new }
+        ensures room { HasGrown result self.new room.old room.new }
         ensures home { PreservesHomeOf (worker_and_core self.old core.old) (worker_and_core self.new core.new) }
         ensures stays { PreservesReadsOf (worker_and_core self.old core.old) (worker_and_core self.new core.new) }
     {
         let plan = self.plan.take();
-        self.state.step(alloc, core, trace, plan)
+        self.state.step(alloc, core, trace, plan, room)
     }
 }
 

@@ -10,13 +10,15 @@ use disk::CrashDisk;
 use layout::{FormatVersion, Geometry};
 use nfs_types::{Call, Ctx, Reply, Status};
 use procs::{Done, Plan, Planner, begins_transaction, reading_mode, refused_reply};
+use session_wire::ReplyRoom;
 use std::alloc::Global;
 use store_promise::{CallAnswer, Cause, Ending, Step, Verdict};
 use txn::{BeginFault, Core, Seq, Tx};
 
 impl State {
     ghost use Rattle.txn.specs.CoreWindow.{PreservesHome, PreservesReads};
-    ghost use Rattle.store_workers.specs.declared.workers.parts.Phase.TheVariants.{Idle, Called, Reading};
+    ghost use Rattle.store_workers.specs.Room.{HasGrown, HasLeastRoom};
+    ghost use Rattle.store_workers.specs.declared.workers.parts.Phase.TheVariants.{Idle, Called, Planning, Reading};
     ghost use Rattle.store_workers.specs.declared.workers.parts.Phase.TheVariants.{Read, Refused, Again};
     ghost use Rattle.store_workers.specs.declared.workers.parts.Phase.TheVariants.{Waiting};
     ghost use Rattle.store_images.specs.Counts.{SameFrame};
@@ -43,8 +45,10 @@ impl State {
         core: &mut Core<Done>,
         trace: &mut Trace,
         plan: Option<Plan>,
+        room: &mut Option<ReplyRoom>,
     ) -> Option<Step>
         requires sound { IsSound self.old }
+        requires room { self.old.phase ≡ Planning → HasLeastRoom room.old }
         requires asked { ∥ HasSoundJob self.old ∥₁ }
         requires prepared { IfSome plan (λ plan. IsPrepared self.old plan) }
         ensures sound { IsSound self.new }
@@ -52,13 +56,14 @@ impl State {
         ensures step { GoesOn self.old.phase (worker_and_core self.old core.old) result (worker_and_core self.new core.new) }
         ensures trace { IsTraced result self.new trace.old trace.new }
         ensures witnessed { IsWitnessed result self.new trace.old trace.new }
+        ensures room { HasGrown result self.new room.old room.new }
         ensures home { PreservesHomeOf (worker_and_core self.old core.old) (worker_and_core self.new core.new) }
         ensures stays { PreservesReadsOf (worker_and_core self.old core.old) (worker_and_core self.new core.new) }
     {
         match self.phase {
             Phase::Idle | Phase::Reading => None,
             Phase::Called => Some(self.begin(alloc, core)),
-            Phase::Planning => Some(self.go_within(alloc, core, trace, plan)),
+            Phase::Planning => Some(self.go_within(alloc, core, trace, plan, room)),
             Phase::Read(ok) => Some(self.give_back(core, ok)),
             Phase::Refused(why) => Some(self.refuse(core, why)),
             Phase::Again => Some(self.begin_again(core)),

@@ -6,7 +6,7 @@ use Rattle.procs.proofs.work.finish.Goals as goal
 pub new-requires : goal.new-requires
 new-requires c =
     finished c.args.ctx.now c.args.call.now c.args.snap.now c.args.untested_plan c.requires.sound c.requires.served
-    c.requires.made c.requires.ends c.requires.step c.few.ensures
+    c.requires.made c.requires.ends c.requires.step c.few.ensures c.requires.short
 
 pub returns-clause-step : goal.returns-clause-step
 returns-clause-step c =

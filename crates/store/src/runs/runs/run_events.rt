@@ -1,5 +1,5 @@
 //! The events of a run.
-ghost use Rattle.std.specs.Prelude.{◌≡◌, ◌+◌, ◌^◌, ◌<◌, ◌≤◌, ◌++◌, All, IsTrue, [], None, length, vec_len};
+ghost use Rattle.std.specs.Prelude.{◌≡◌, ◌+◌, ◌^◌, ◌<◌, ◌≤◌, ◌++◌, All, IfOk, IsTrue, [], None, length, vec_len};
 ghost use Rattle.std.specs.Prelude.{IsFalse, Some, false, true, vec_capacity, ℕ};
 ghost use Rattle.layout.specs.Geometry.{IsLawful};
 ghost use Rattle.nfs_spec.specs.Model.Sound.{SoundTime};
@@ -11,7 +11,7 @@ ghost use Rattle.store_images.specs.LogCallState.{MayMake, MayStep, gives_back, 
 ghost use Rattle.store.specs.Runs.Going.{PreservesCore, LeavesGoing, store_and_workers};
 ghost use Rattle.wal_calls.specs.Callers.Making.{IsTried};
 ghost use Rattle.wal_calls.specs.Callers.Steps.{HasStepped, comes_back, goes_out};
-ghost use Rattle.store.specs.Runs.Running.{AreQuiet, AreWithin, DoesItsStep, IsAtRest, PreservesFits, MovesOne, RunsWell};
+ghost use Rattle.store.specs.Runs.Running.{AreQuiet, AreWithin, DoesItsStep, HasRoomFor, IsAtRest, PreservesFits, MovesOne, RunsWell};
 ghost use Rattle.store.specs.Runs.Running.{other_caller, counted, of_side, one_more, store_state_of};
 ghost use Rattle.store_images.specs.Counts.{SameFrame};
 ghost use Rattle.store_images.specs.Settling.{IsIdle};
@@ -28,7 +28,8 @@ use super::sound::{can_be_spelled, is_moment};
 use disk::{CrashDisk, Side};
 use nfs_types::{Call, Credential, Moment};
 use procs::Done;
-use std::alloc::Global;
+use session_wire::ReplyRoom;
+use std::alloc::{AllocError, Global};
 use store_images::{Store, the_calls_of_a_role_are_steps};
 use store_promise::{CallAnswer, Entry, Event, Run, Step, a_device_counts_the_calls_of_its_steps};
 use store_workers::Worker;
@@ -81,7 +82,8 @@ impl<D: CrashDisk> Running<D> {
         }
     }
 
-    /// Takes an event, and answers whether it did: it doesn't where there is no memory to tell of it.
+    /// Takes an event, and answers whether it did: it doesn't where there is no memory to tell of it, or, of a call, for
+    /// a reply.
     pub(super) fn take(&mut self, alloc: Global, event: Event, run: &mut Run) -> bool
         requires { RunsWell self.old.workers.items self.old.store.core self.old.calls }
         ensures well { RunsWell self.new.workers.items self.new.store.core self.new.calls }
@@ -97,13 +99,21 @@ impl<D: CrashDisk> Running<D> {
         if run.reserve_next().is_err() {
             return false;
         }
-        self.make(alloc, event, run);
+        let room = match room_for(alloc, &event) {
+            Ok(room) => room,
+            Err(error) => {
+                run.refuse(error);
+                return false;
+            }
+        };
+        self.make(alloc, event, room, run);
         true
     }
 
-    // Makes the step of an event, if it applies, and tells of it.
-    fn make(&mut self, alloc: Global, event: Event, run: &mut Run)
+    // Makes the step of an event, if it applies, and tells of it. A call brings memory for its reply.
+    fn make(&mut self, alloc: Global, event: Event, room: Option<ReplyRoom>, run: &mut Run)
         requires well { RunsWell self.old.workers.items self.old.store.core self.old.calls }
+        requires room { HasRoomFor event room }
         requires has_space { HasReserved run.old }
         ensures well { RunsWell self.new.workers.items self.new.store.core self.new.calls }
         ensures model { D.keeps_model self.new.store.disk → D.keeps_model self.old.store.disk }
@@ -124,7 +134,10 @@ impl<D: CrashDisk> Running<D> {
                 call,
             } => {
                 a_call_leaves_a_run_going();
-                let step = self.hand(worker, credential, moment, call);
+                let Some(room) = room else {
+                    unreachable!();
+                };
+                let step = self.hand(worker, credential, moment, call, room);
                 run.trace_step(step);
             }
             Event::Work(worker) => {
@@ -163,6 +176,7 @@ impl<D: CrashDisk> Running<D> {
         credential: Credential,
         moment: Moment,
         call: Call,
+        room: ReplyRoom,
     ) -> Option<Step>
         requires { RunsWell self.old.workers.items self.old.store.core self.old.calls }
         ensures well { RunsWell self.new.workers.items self.new.store.core self.new.calls }
@@ -181,7 +195,7 @@ impl<D: CrashDisk> Running<D> {
         if !is_moment(moment) || !can_be_spelled(&call) {
             return None;
         }
-        if self.workers[worker].hand(credential, moment, call) {
+        if self.workers[worker].hand(credential, moment, call, room) {
             Some(Step::Called)
         } else {
             None
@@ -311,6 +325,16 @@ impl<D: CrashDisk> Running<D> {
     }
 }
 
+// The memory that an event brings: a call that for its reply.
+fn room_for(alloc: Global, event: &Event) -> Result<Option<ReplyRoom>, AllocError>
+    ensures { IfOk result (λ room. HasRoomFor event.now room) }
+{
+    match event {
+        Event::Call { .. } => Ok(Some(ReplyRoom::new(alloc)?)),
+        _ => Ok(None),
+    }
+}
+
 // As many workers as room is made for, which have done nothing yet.
 fn new_workers(alloc: Global, workers: usize, reserved_workers: Vec<Worker>) -> Vec<Worker>
     requires empty { reserved_workers.items ≡ [] }
@@ -355,7 +379,13 @@ fn tell(one: &mut Worker, number: usize, clock: u64, entry: Option<Entry>, run: 
     ensures worker { one.new.state ≡ reported one.old.state }
     ensures run { TellsWork number clock entry one.old.state.work.answer run.old run.new }
 {
-    let answer = one.take_answer();
+    let answer = match one.take_answer() {
+        Some((answer, room)) => {
+            drop(room);
+            Some(answer)
+        }
+        None => None,
+    };
     trace_entry(run, number, clock, entry);
     trace_answer(run, number, clock, answer);
 }

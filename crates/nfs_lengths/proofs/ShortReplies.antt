@@ -35,7 +35,6 @@ use Rattle.nfs_types.specs.declared.attributes.WeakCacheData.{WeakCacheData}
 use Rattle.nfs_types.specs.declared.call.Call as types
 use Rattle.nfs_types.specs.declared.call.Call.TheVariants as call
 use Rattle.nfs_types.specs.declared.ctx.Ctx.{Ctx}
-use Rattle.nfs_types.specs.declared.program.ProgramReply.TheVariants as program_replies
 use Rattle.nfs_types.specs.declared.reply.Created.{Created}
 use Rattle.nfs_types.specs.declared.reply.FileSystemInfo.{FileSystemInfo}
 use Rattle.nfs_types.specs.declared.reply.FileSystemSpace.{FileSystemSpace}
@@ -49,34 +48,17 @@ use Rattle.nfs_types.specs.declared.status.Status.TheVariants as status
 use Rattle.nfs_types.specs.declared.verifier.Verifier.{Verifier}
 use Rattle.xdr.specs.Codes.{Code, nothing, word, flag, double, ◌then◌}
 use Rattle.nfs_codec.specs.Items.{attributes, handle, moment, optional_attributes, text, verifier, weak_cache}
+use Rattle.nfs_lengths.specs.Lengths.{IsShort as IsShortReply}
 use Rattle.nfs_results.specs.Results.{nfs_result_bytes, nfs_too_long}
 use Rattle.nfs_results.specs.Results.{get_attr, set_attr, lookup, access, read_link, read, write, create, remove}
 use Rattle.nfs_results.specs.Results.{rename, link, read_dir, read_dir_plus, fs_stat, fs_info, path_conf, commit}
 use Rattle.nfs_results.specs.Results.{created, info, limits, listed, listed_plus, lookup_result, read_bytes, space, written}
-use Rattle.rpc.proofs.Lengths.{word-length, accepted-length}
-use Rattle.rpc.specs.Refused.{accepted, refused}
-use Rattle.rpc.specs.declared.refusal.Refusal.TheVariants.{SystemError}
-use Rattle.session_wire.specs.declared.message.ReplyBody.TheVariants as bodies
-use Rattle.session_wire.specs.Replies.{IsTooLong, reply_bytes}
-use Rattle.session_wire.proofs.ShortRefusals.{not_long_refusal}
-use Rattle.store_promise.specs.Verdicts.{refusal}
-use Rattle.store_promise.specs.declared.answers.Verdict.{Verdict}
-use Rattle.store_promise.specs.declared.events.Cause.{Cause}
-use Rattle.store_promise.specs.declared.events.Cause.TheVariants as cause
-use Rattle.store.specs.Calling.{ComesTo, Outset, Tells}
-use Rattle.store_images.specs.Opening.{Opened}
-use Rattle.nfs_spec.specs.Model.Entry.{Entry}
-use Rattle.session.specs.Replying.{IsSpelled}
-use Rattle.session.specs.Serving.{reply_for}
-use Rattle.session.proofs.ShortCodes.{IsShort, all_attributes, default_voids, any_outcome, short_attributes, befores}
-use Rattle.session.proofs.ShortCodes.{behinds, short_changes, double-length, flag-length, flags, handed_out}
-use Rattle.session.proofs.ShortCodes.{nothings, texts, thens, verifiers, words}
-use Rattle.session.proofs.ShortMade.{create_short, made_short, with_space, written_short}
-use Rattle.session.proofs.ShortListings.{listing_short, listing_plus_short}
-
-pub record IsShortReply (reply : Reply) : Type 0 where
-  pub short : length (nfs_result_bytes reply) ≤ 139000
-  pub counts : nfs_too_long reply ≡ false
+use Rattle.rpc.proofs.Lengths.{word-length}
+use Rattle.nfs_lengths.proofs.ShortCodes.{IsShort, all_attributes, default_voids, any_outcome, short_attributes, befores}
+use Rattle.nfs_lengths.proofs.ShortCodes.{behinds, short_changes, double-length, flag-length, flags, handed_out}
+use Rattle.nfs_lengths.proofs.ShortCodes.{nothings, texts, thens, verifiers, words}
+use Rattle.nfs_lengths.proofs.ShortMade.{create_short, made_short, with_space, written_short}
+use Rattle.nfs_lengths.proofs.ShortListings.{listing_short, listing_plus_short}
 
 -- ---- what comes after OK, if it does
 
@@ -420,42 +402,3 @@ pub step_is_short : (tree : Tree) (ctx : Ctx) (c : types.Call) (reply : Reply) (
     → begins_transaction c ≡ true → step tree ctx c reply next → IsShortReply reply
 step_is_short tree ctx c reply next sound rules is =
     numbered_is_short tree ctx is.new next sound c reply rules is.leads
-
--- ---- what a call is answered
-
-not_long : (xid : ℕ) (reply : Reply) → IsShortReply reply
-    → IsTooLong xid (bodies.Done (program_replies.Nfs reply)) → ⊥
-not_long xid reply few (inl long) = true≢false (sym (sym few.counts ∙ long))
-not_long xid reply few (inr many) =
-    let short = few.short in
-    omega (arith, many, short, accepted-length xid 0, length-append (accepted xid 0) (nfs_result_bytes reply))
-
--- so it isn't too long, whatever a procedure came to
-abbrev IsFine : ℕ → Verdict → Type 0
-IsFine xid given_verdict = IsTooLong xid (reply_for given_verdict) → ⊥
-
-fine_refusal : (xid : ℕ) (c : types.Call) (why : Cause) → IsFine xid (refusal c why)
-fine_refusal xid c cause.Io = not_long xid (refused_reply status.Io c) (refused_is_short status.Io c)
-fine_refusal xid c cause.Spent = not_long xid (refused_reply status.ServerFault c)
-    (refused_is_short status.ServerFault c)
-fine_refusal xid c (cause.NoMemory error) = not_long_refusal xid SystemError
-
-pub never_too_long : (xid : ℕ) (o : Outset) (entry : Option Entry) (last : Tree) (given_verdict : Verdict) (now : Opened)
-    → Sound o.last → ComesTo o now entry last → Tells o entry given_verdict now → IsTooLong xid (reply_for given_verdict) → ⊥
-never_too_long xid o (Some entry) last given_verdict now sound comes (inl reply) =
-    subst (IsFine xid) (sym reply.verdict_is_reply)
-    (not_long xid entry.reply (step_is_short o.last entry.ctx entry.call entry.reply last sound
-    (subst (λ (c : types.Call). begins_transaction c ≡ true) (sym comes.call) comes.begun_for.begins) comes.step))
-never_too_long xid o (Some entry) last given_verdict now sound comes (inr unsettled) =
-    subst (IsFine xid) (sym unsettled.verdict_is_reply) (fine_refusal xid o.asked.call cause.Io)
-never_too_long xid o None last given_verdict now sound comes (inl unserved) =
-    subst (IsFine xid) (sym unserved.verdict_is_reply)
-    (not_long xid replies.Null (refused_is_short status.Io call.Null))
-never_too_long xid o None last given_verdict now sound comes (inr refused) =
-    subst (IsFine xid) (sym refused.verdict_is_reply) (fine_refusal xid o.asked.call refused.why)
-
--- so the reply's own spelling is what was answered
-pub spelled_whole : (xid : ℕ) (given_verdict : Verdict) (bytes : List ℕ) → (IsTooLong xid (reply_for given_verdict) → ⊥)
-    → IsSpelled xid (reply_for given_verdict) bytes → bytes ≡ reply_bytes xid (reply_for given_verdict)
-spelled_whole xid given_verdict bytes fine (inl spelled) = spelled.0
-spelled_whole xid given_verdict bytes fine (inr long) = absurd (fine long.0)

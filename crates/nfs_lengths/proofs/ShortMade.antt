@@ -28,7 +28,7 @@ use Rattle.xdr.specs.Codes.{word, ◌then◌, optional}
 use Rattle.nfs_codec.specs.Items.{handle, optional_attributes, optional_handle, stability, verifier}
 use Rattle.nfs_results.specs.Results.{created, written}
 use Rattle.rpc.proofs.Lengths.{word-length}
-use Rattle.session.proofs.ShortCodes.{AreShort, IsShort, short_attributes, handed_out, optionals, thens, verifiers, words}
+use Rattle.nfs_lengths.proofs.ShortCodes.{AreShort, IsShort, short_attributes, handed_out, optionals, thens, verifiers, words}
 
 -- ---- a file that was made or found
 

@@ -17,8 +17,8 @@ use Rattle.xdr.specs.Codes.{Code, chain, chain_bytes, double, flag, ◌then◌, 
 use Rattle.xdr.specs.Items as items
 use Rattle.nfs_codec.specs.Items.{handle, optional_attributes, optional_handle, text, verifier}
 use Rattle.nfs_results.specs.Results.{entries, entries_plus, entry, entry_plus, listed, listed_plus}
-use Rattle.session.proofs.ShortCodes.{IsShort, short_attributes, doubles, flags, handed_out, optionals, or_false, texts}
-use Rattle.session.proofs.ShortCodes.{flag-length, thens, verifiers}
+use Rattle.nfs_lengths.proofs.ShortCodes.{IsShort, short_attributes, doubles, flags, handed_out, optionals, or_false, texts}
+use Rattle.nfs_lengths.proofs.ShortCodes.{flag-length, thens, verifiers}
 
 -- ---- entries that have room together
 

@@ -1,0 +1,4 @@
+pub mod ShortCodes
+pub mod ShortListings
+pub mod ShortMade
+pub mod ShortReplies

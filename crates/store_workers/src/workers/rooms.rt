@@ -1,0 +1,74 @@
+//! The memory for the reply to a worker's call. It comes with the call, and grows to its reply before that is committed.
+ghost use Rattle.std.specs.Prelude.{◌≡◌, ℕ, Some, None, true, OnOk};
+ghost use Rattle.store_promise.specs.declared.answers.Verdict.TheVariants as verdicts;
+ghost use Rattle.store_workers.specs.Room.{HasLeastRoom, HasRoomFor, IsNoLess, is_answer, reply_for};
+
+use super::parts::Phase;
+use procs::Done;
+use session_wire::{ReplyRoom, RpcReply, a_short_reply_fits_a_record};
+use std::alloc::{AllocError, Global};
+use store_promise::Step;
+use xdr::XdrFault;
+
+// The memory of a call, and that of the answer that lies ready.
+#[derive(Drop)]
+pub(crate) struct Rooms {
+    pub(crate) call: Option<ReplyRoom>,
+    pub(crate) ready: Option<ReplyRoom>,
+}
+
+impl Rooms {
+    // None.
+    pub(super) fn none() -> Rooms
+        ensures { result ≡ record { call = None; ready = None } }
+    {
+        Rooms {
+            call: None,
+            ready: None,
+        }
+    }
+
+    // That of a call that is handed over.
+    pub(super) fn take_call(&mut self, room: ReplyRoom)
+        ensures { self.new ≡ record self.old { call = Some room } }
+    {
+        drop(self.call.replace(room));
+    }
+
+    // The call was answered: its memory is the answer's.
+    pub(super) fn lie_ready(&mut self)
+        ensures { self.new ≡ record { call = None; ready = self.old.call } }
+    {
+        let room = self.call.take();
+        drop(std::mem::replace(&mut self.ready, room));
+    }
+}
+
+// Has memory for the reply of a finished plan, before that is committed.
+pub(super) fn grow_for(
+    alloc: Global,
+    room: &mut Option<ReplyRoom>,
+    done: &Done,
+) -> Result<(), AllocError>
+    requires { HasLeastRoom room.old }
+    ensures more { IsNoLess room.old room.new }
+    ensures fits { OnOk result (HasRoomFor room.new (reply_for (verdicts.Reply done.now.reply))) }
+{
+    let Some(room) = room.as_mut() else {
+        unreachable!();
+    };
+    done.finished();
+    a_short_reply_fits_a_record();
+    match room.grow_for(alloc, RpcReply::Nfs(done.reply())) {
+        Ok(()) => Ok(()),
+        Err(XdrFault::NoMemory(error)) => Err(error),
+        Err(_) => unreachable!(),
+    }
+}
+
+// Whether a step that leaves a worker in this phase has answered its call.
+pub(super) fn is_answer(made: &Option<Step>, phase: Phase) -> bool
+    ensures { result ≡ is_answer made.now phase }
+{
+    made.is_some() && phase == Phase::Idle
+}
