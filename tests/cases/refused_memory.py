@@ -36,19 +36,19 @@ CREATE_A, READ_ALL = (nfs.CREATE, ROOT, b"a", CREATED), (nfs.READ, FIRST, 0, 131
 # Lists of calls on a new image, and the most growths that each may take from behind an opening: a body that asks for more
 # memory than it needs takes more.
 LISTS = {
-    "a mode": ([(nfs.SETATTR, ROOT, nfs.new_attributes(mode=0o700), None)], 53),
-    "attributes": ([(nfs.GETATTR, ROOT)], 42),
-    "bytes on both sides of the last direct border": ([CREATE_A, written(4_227_071, b"a"), written(4_227_072, b"b")], 180),
-    "bytes behind zeros": ([CREATE_A, written(10_000, b"hello"), (nfs.READ, FIRST, 0, 10_005), (nfs.READ, FIRST, 10_005, 1)], 147),
-    "a file that is cut and grows": ([CREATE_A, written(0, b"abcdefgh"), resized(3), resized(8), (nfs.READ, FIRST, 0, 8)], 217),
-    "a file that is made once": ([exclusive(8), exclusive(8), exclusive(9)], 123),
-    "two names of a file": ([CREATE_A, (nfs.LINK, FIRST, ROOT, b"b"), (nfs.RENAME, ROOT, b"a", ROOT, b"b")], 145),
+    "a mode": ([(nfs.SETATTR, ROOT, nfs.new_attributes(mode=0o700), None)], 54),
+    "attributes": ([(nfs.GETATTR, ROOT)], 43),
+    "bytes on both sides of the last direct border": ([CREATE_A, written(4_227_071, b"a"), written(4_227_072, b"b")], 183),
+    "bytes behind zeros": ([CREATE_A, written(10_000, b"hello"), (nfs.READ, FIRST, 0, 10_005), (nfs.READ, FIRST, 10_005, 1)], 151),
+    "a file that is cut and grows": ([CREATE_A, written(0, b"abcdefgh"), resized(3), resized(8), (nfs.READ, FIRST, 0, 8)], 222),
+    "a file that is made once": ([exclusive(8), exclusive(8), exclusive(9)], 126),
+    "two names of a file": ([CREATE_A, (nfs.LINK, FIRST, ROOT, b"b"), (nfs.RENAME, ROOT, b"a", ROOT, b"b")], 148),
     "a directory into itself": ([(nfs.MKDIR, ROOT, b"a", NONE), (nfs.MKDIR, FIRST, b"b", NONE),
-                                 (nfs.RENAME, ROOT, b"a", SECOND, b"c")], 161),
-    "listings": ([CREATE_A, listed(160), listed(159), listed(131), listed(188)], 150),
+                                 (nfs.RENAME, ROOT, b"a", SECOND, b"c")], 164),
+    "listings": ([CREATE_A, listed(160), listed(159), listed(131), listed(188)], 155),
     "a number that is given again": ([CREATE_A, (nfs.REMOVE, ROOT, b"a"), (nfs.CREATE, ROOT, b"b", CREATED),
-                                      (nfs.GETATTR, FIRST)], 178),
-    "the most bytes of a call": ([CREATE_A, written(0, MOST, nfs.FILE_SYNC), READ_ALL], 478),
+                                      (nfs.GETATTR, FIRST)], 181),
+    "the most bytes of a call": ([CREATE_A, written(0, MOST, nfs.FILE_SYNC), READ_ALL], 481),
 }
 
 
@@ -80,18 +80,14 @@ class Right:
             self.found[kept, numbered] = [told[at] for at in sorted(kept)], files_of(self.image)
         return self.found[kept, numbered]
 
-    def explain(self, what, told, files, unanswered):
-        """These are the replies of calls in their order, and the files that they leave; and so many further ones may have been done
-        whose replies found no memory."""
+    def explain(self, what, told, files):
+        """These are the replies of calls in their order, and the files that they leave: no call was done that wasn't answered."""
         refused = frozenset(at for at, it in enumerate(told) if it == system_error(at))
         is_so(f"{what}: {len(refused)} calls met the one refusal", len(refused) <= 1)
         right = [it for at, it in enumerate(told) if at not in refused]
-        for more in range(unanswered + 1):
-            done = frozenset(range(len(told) + more)) - refused
-            for numbered in (frozenset(), refused):
-                replies, left = self.of(done, numbered)
-                if replies[: len(right)] == right and left == files:
-                    return
+        done = frozenset(range(len(told))) - refused
+        if any(self.of(done, numbered) == (right, files) for numbered in (frozenset(), refused)):
+            return
         raise AssertionError(f"{what}: the replies {told} and the files {files} are those of no calls")
 
 
@@ -130,8 +126,7 @@ def assert_each_refusal(place, title, calls, most):
         else:
             same(f"{what}: the fault", (ran.status, ran.errors), (1, b"nfsd: 4 NoMemory\n"))
             outcomes["ended"] += 1
-        # Where the memory of a reply is refused its call may be done and not answered (README, Not yet).
-        right.explain(what, told, files_of(image), 0 if ran.status == 0 else 1)
+        right.explain(what, told, files_of(image))
     is_so(f"{title}: {outcomes}", outcomes["told"] > 0 and outcomes["ended"] > 0)
 
 

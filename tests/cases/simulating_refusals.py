@@ -24,7 +24,7 @@ ROUNDS = [
     [(nfs.WRITE, (A, 0, 5, nfs.UNSTABLE, b"there")), (nfs.SETATTR, (B, nfs.new_attributes(mode=0o711), None))],
 ]
 # The most growths that it takes behind `format`.
-MOST = 360
+MOST = 372
 
 
 class List:

@@ -16,13 +16,11 @@ use Rattle.rpc.specs.declared.refusal.Refusal.{Refusal}
 use Rattle.rpc.specs.declared.refusal.Refusal.TheVariants.{SystemError}
 use Rattle.rpc.specs.Refused.{refused}
 use Rattle.rpc.proofs.CutsOff.{cut_feed, cut_next}
-use Rattle.rpc.proofs.Lengths.{refused-length}
 use Rattle.session_wire.specs.Judging.{IsCallOf, judged}
 use Rattle.session_wire.specs.declared.message.Judged.{Judged}
 use Rattle.session_wire.specs.declared.message.Judged.TheVariants as verdicts
 use Rattle.session_wire.specs.declared.message.ReplyBody.{ReplyBody}
 use Rattle.session_wire.specs.declared.message.ReplyBody.TheVariants as bodies
-use Rattle.session_wire.specs.Replies.{body_too_long, reply_bytes, IsTooLong as IsTooLongReply}
 use Rattle.store_images.specs.Opening.{Opened}
 use Rattle.session.specs.declared.stream.SessionFault.{SessionFault}
 use Rattle.session.specs.declared.stream.SessionFault.TheVariants as faults
@@ -224,42 +222,14 @@ pub delivers_so : (P Q : List ℕ → Type 0) (first : OutputState) (result : Re
     → Delivers Q first result written
 delivers_so P Q first result written so d = (d.0, so d.0 d.1, d.2)
 
--- each body has what it is spelled as
-spelled_by : (xid : ℕ) (body : ReplyBody) (long many : Bool) → body_too_long body ≡ long
-    → leb (2 ^ 31) (length (reply_bytes xid body)) ≡ many → (bytes : List ℕ) × IsSpelled xid body bytes
-spelled_by xid body true many is more = (refused xid SystemError, inr (inl is, refl))
-spelled_by xid body false true is more = (
-  refused xid SystemError,
-  inr (
-    inr (leb→le (2 ^ 31) (length (reply_bytes xid body))
-        (subst T (sym more) tt)),
-    refl,
-  ),
-)
-spelled_by xid body false false is more = (reply_bytes xid body, inl (refl, fits))
-  where
-    fits : IsTooLongReply xid body → ⊥
-    fits (inl so) = absurd (true≢false (sym so ∙ is))
-    fits (inr so) = absurd (subst T more (le→leb (2 ^ 31) (length (reply_bytes xid body)) so))
-
-pub has_spelling : (xid : ℕ) (body : ReplyBody) → (bytes : List ℕ) × IsSpelled xid body bytes
-has_spelling xid body =
-    spelled_by xid body (body_too_long body) (leb (2 ^ 31) (length (reply_bytes xid body))) refl refl
-
 -- ---- what a message is taken for
-
-pub refusal_fits : (xid : ℕ) (refusal : Refusal) (bytes : List ℕ) → IsSpelled xid (bodies.Refused refusal) bytes
-    → bytes ≡ refused xid refusal
-refusal_fits xid refusal bytes (inl e) = e.0
-refusal_fits xid refusal bytes (inr (inl spelled, e)) = absurd (cc spelled)
-refusal_fits xid refusal bytes (inr (inr long, e)) = absurd (omega (arith, long, refused-length xid refusal))
 
 pub judged_refused : (K : Type 0) (moment : Moment) (old : Opened) (j : Judged) (xid : ℕ) (refusal : Refusal)
     (bytes : List ℕ) → verdicts.Refused xid refusal ≡ j → IsSpelled xid (bodies.Refused refusal) bytes
     → IsMessageAnswered K moment old j bytes old
 judged_refused K moment old j xid refusal bytes is spelled =
     subst (λ (told : Judged). IsMessageAnswered K moment old told bytes old)
-    is (refusal_fits xid refusal bytes spelled, refl)
+    is (spelled, refl)
 
 pub judged_lacking : (K : Type 0) (moment : Moment) (old new : Opened) (j : Judged) (xid : ℕ) (bytes : List ℕ)
     → IsCallOf xid j → HasLacked old xid bytes new → IsMessageAnswered K moment old j bytes new
@@ -281,7 +251,7 @@ pub stops_reading : (K : Type 0) (moment : Moment) (fault : SessionFault) (left 
     (w : OutputState) → (fault ≡ faults.NoMemory) ⊎ ((fault ≡ faults.Record) × IsTooLong left)
     → StopsAt K moment fault left old w old w
 stops_reading K moment fault left old w (inl e) =
-    subst (λ (f : SessionFault). StopsAt K moment f left old w old w) (sym e) (inl (refl, refl))
+    subst (λ (f : SessionFault). StopsAt K moment f left old w old w) (sym e) (refl, refl)
 stops_reading K moment fault left old w (inr long) =
     subst (λ (f : SessionFault). StopsAt K moment f left old w old w) (sym long.0)
     ((refl, refl), inl long.1)
@@ -290,17 +260,9 @@ pub stops_serving : (K : Type 0) (moment : Moment) (fault : SessionFault) (left 
     (old : Opened) (first : OutputState) (new : Opened) (written : OutputState) → left ≡ text ++ more
     → IsRecord text m → Serves K moment old first m (Err fault) new written
     → StopsAt K moment fault left old first new written
-stops_serving K moment faults.NoMemory left text m more old first new written e is (inl d) = inr (record {
-  text = text;
-  message = m;
-  more = more;
-  reply = d.0;
-  cut = e;
-  is = is;
-  answered = d.1;
-  unwritten = d.2;
-})
-stops_serving K moment faults.NoMemory left text m more old first new written e is (inr x) = absurd (cc x.0)
+stops_serving K moment faults.NoMemory left text m more old first new written e is (inl d) = absurd d.2
+stops_serving K moment faults.NoMemory left text m more old first new written e is (inr (inl x)) = absurd (cc x.0)
+stops_serving K moment faults.NoMemory left text m more old first new written e is (inr (inr x)) = x.1
 stops_serving K moment faults.Output left text m more old first new written e is (inl d) = record {
   text = text;
   message = m;
@@ -311,18 +273,23 @@ stops_serving K moment faults.Output left text m more old first new written e is
   answered = d.1;
   unwritten = d.2;
 }
-stops_serving K moment faults.Output left text m more old first new written e is (inr x) = absurd (cc x.0)
+stops_serving K moment faults.Output left text m more old first new written e is (inr (inl x)) = absurd (cc x.0)
+stops_serving K moment faults.Output left text m more old first new written e is (inr (inr x)) = absurd (cc x.0)
 stops_serving K moment faults.Record left text m more old first new written e is (inl d) = absurd d.2
-stops_serving K moment faults.Record left text m more old first new written e is (inr x) = (
+stops_serving K moment faults.Record left text m more old first new written e is (inr (inl x)) = (
   x.2,
   inr (record { text = text; message = m; more = more; cut = e; is = is; closed = x.1 }),
 )
+stops_serving K moment faults.Record left text m more old first new written e is (inr (inr x)) = absurd (cc x.0)
 stops_serving K moment faults.Input left text m more old first new written e is (inl d) = absurd d.2
-stops_serving K moment faults.Input left text m more old first new written e is (inr x) = absurd (cc x.0)
+stops_serving K moment faults.Input left text m more old first new written e is (inr (inl x)) = absurd (cc x.0)
+stops_serving K moment faults.Input left text m more old first new written e is (inr (inr x)) = absurd (cc x.0)
 stops_serving K moment faults.Truncated left text m more old first new written e is (inl d) = absurd d.2
-stops_serving K moment faults.Truncated left text m more old first new written e is (inr x) = absurd (cc x.0)
+stops_serving K moment faults.Truncated left text m more old first new written e is (inr (inl x)) = absurd (cc x.0)
+stops_serving K moment faults.Truncated left text m more old first new written e is (inr (inr x)) = absurd (cc x.0)
 stops_serving K moment faults.Device left text m more old first new written e is (inl d) = absurd d.2
-stops_serving K moment faults.Device left text m more old first new written e is (inr x) = absurd (cc x.0)
+stops_serving K moment faults.Device left text m more old first new written e is (inr (inl x)) = absurd (cc x.0)
+stops_serving K moment faults.Device left text m more old first new written e is (inr (inr x)) = absurd (cc x.0)
 
 -- a message is served
 pub serves : (K : Type 0) (moment : Moment) (old : Opened) (first : OutputState) (read left : List ℕ)
@@ -332,7 +299,9 @@ pub serves : (K : Type 0) (moment : Moment) (old : Opened) (first : OutputState)
     → IsCourse K moment old first read more next new written
 serves K moment old first read left count middle output_state text m more next new written c e is (inl d) n =
     answers K moment old first read left count middle output_state text m more d.0 next new written c e is d.1 d.2 n
-serves K moment old first read left count middle output_state text m more next new written c e is (inr x) n =
+serves K moment old first read left count middle output_state text m more next new written c e is (inr (inl x)) n =
+    absurd (cc x.0)
+serves K moment old first read left count middle output_state text m more next new written c e is (inr (inr x)) n =
     absurd (cc x.0)
 
 -- ---- where the stream ends
@@ -364,11 +333,11 @@ ends_short : (K : Type 0) (moment : Moment) (old : Opened) (unread : Option (Lis
     (result : Result ℕ SessionFault) (rest : Option (List ℕ)) (written : OutputState) (new : Opened) (read left : List ℕ)
     (count : ℕ) (middle : Opened) (output_state : OutputState) → Consumes unread rest read
     → (c : IsCourse K moment old first read left count middle output_state)
-    → (fault : SessionFault) (short : IsCutShort K moment fault left middle output_state new written)
-    → (IsCutOff fault first (c.replies ++ short.reply ∷ []) written
+    → (short : IsCutShort K moment left middle output_state new written)
+    → (IsCutOff first (c.replies ++ short.reply ∷ []) written
     → EndsAt result short.more rest first written (c.replies ++ short.reply ∷ []))
     → IsStream K moment old unread first result rest written new
-ends_short K moment old unread first result rest written new read left count middle output_state consumed c fault short so =
+ends_short K moment old unread first result rest written new read left count middle output_state consumed c short so =
     record {
       read = read;
       messages = c.messages ++ short.message ∷ [];
@@ -415,17 +384,13 @@ stopped K moment old unread first faults.Record rest written new read left count
     ends_between K moment old unread first (Err faults.Record) rest written new read left count consumed same
     (stops.1, same.replies_sent)
 stopped K moment old unread first faults.NoMemory rest written new read left count middle output_state consumed
-    c (inl still) =
+    c still =
     let same = same_course K moment old first read left count middle output_state new written c still in
     ends_between K moment old unread first (Err faults.NoMemory) rest written new read left count consumed same
-    (inl same.replies_sent)
-stopped K moment old unread first faults.NoMemory rest written new read left count middle output_state consumed
-    c (inr short) =
-    ends_short K moment old unread first (Err faults.NoMemory) rest written new read left count middle
-    output_state consumed c faults.NoMemory short (λ off. inr off)
+    same.replies_sent
 stopped K moment old unread first faults.Output rest written new read left count middle output_state consumed c short =
     ends_short K moment old unread first (Err faults.Output) rest written new read left count middle
-    output_state consumed c faults.Output short (λ off. off)
+    output_state consumed c short (λ off. off)
 stopped K moment old unread first faults.Input rest written new read left count middle output_state consumed c stops =
     absurd stops
 stopped K moment old unread first faults.Truncated rest written new read left count middle output_state

@@ -46,7 +46,6 @@ use Rattle.session.proofs.Counted.{added_along, counted}
 use Rattle.session.proofs.Courses.{longer_answers}
 use Rattle.session.proofs.ServedFiles.{each_message, served_along}
 use Rattle.store_promise.proofs.FileBlocks.{stands_now}
-use Rattle.session.proofs.ShortReplies.{never_too_long, spelled_whole}
 
 -- ---- the laws that it rests on
 
@@ -206,8 +205,7 @@ one stops K moment old files (verdicts.Call xid credential (calls.Nfs call)) byt
         a.0,
         has,
         refl,
-        spelled_whole xid a.0 bytes (never_too_long xid (outset_of moment old files credential call)
-            has.entry has.last a.0 new (sound_last old files opened) has.comes has.tells) a.2,
+        a.2,
         λ entry is reply stable. let there = reply.settled stable in omega (arith, there, few),
       );
       goes = has.goes;

@@ -4,7 +4,7 @@ use Rattle.session_wire.specs.declared.message.ReplyBody.TheVariants as bodies
 use Rattle.store_images.specs.Opening.{store_of}
 use Rattle.txn_law.specs.Core.{CoreState}
 use Rattle.session.specs.Replying.{HasLacked, IsSpelled}
-use Rattle.session.proofs.Courses.{delivers_so, refusal_fits}
+use Rattle.session.proofs.Courses.{delivers_so}
 use Rattle.session.proofs.record_reply.lack.Goals as goal
 
 pub returns-clause-lacked : goal.returns-clause-lacked
@@ -17,6 +17,6 @@ returns-clause-lacked g c =
     delivers_so (IsSpelled xid (bodies.Refused SystemError))
     (λ (reply : List ℕ). HasLacked old xid reply new) _ _ _
     (λ reply is. (
-      refusal_fits xid SystemError reply is,
+      is,
       ap (λ (core : CoreState). store_of device core boot) c.refuse.ensures.counted,
     )) c.put.ensures

@@ -8,15 +8,15 @@ use Rattle.session.specs.Replying.{IsCallAnswered, IsMounted, IsSpelled}
 use Rattle.session.proofs.Courses.{delivers_so}
 use Rattle.session.proofs.record_reply.serve_call.Goals as goal
 
-pub procedure-verdict-requires-clause-spelled : goal.procedure-verdict-requires-clause-spelled
-procedure-verdict-requires-clause-spelled g c = subst ProgramCallFits c.in-Nfs.is c.requires.fits.fits
+pub procedure-requires-clause-spelled : goal.procedure-requires-clause-spelled
+procedure-requires-clause-spelled g c = subst ProgramCallFits c.in-Nfs.is c.requires.fits.fits
 
 pub returns-in-Nfs-clause-serves : goal.returns-in-Nfs-clause-serves
 returns-in-Nfs-clause-serves g c =
     let device = g.D.CrashDisk.device in
     let old = store_of (device c.args.store.now.disk) c.args.store.now.core c.args.store.now.boot in
     let preserves = g.D.CrashDisk.keeps_model in
-    let after = c.procedure-verdict.new.store in
+    let after = c.procedure.new.store in
     let new = store_of (device after.disk) after.core after.boot in
     let xid = c.args.xid in
     delivers_so (IsSpelled xid (body_of c.reply_to.result))
@@ -27,17 +27,17 @@ returns-in-Nfs-clause-serves g c =
     (λ (call : ProgramCall). IsCallAnswered (preserves after.disk) c.args.moment old xid c.args.credential
     call reply new)
     (sym c.in-Nfs.is) (
-      c.procedure-verdict.result,
+      c.procedure.result.0,
       record {
-        idle = c.procedure-verdict.ensures.idle;
-        boot = c.procedure-verdict.ensures.boot;
+        idle = c.procedure.ensures.idle;
+        boot = c.procedure.ensures.boot;
         sound = λ timely. record {
           uid = c.requires.fits.uid;
           gid = c.requires.fits.gid;
           timely = timely;
           fits = subst ProgramCallFits c.in-Nfs.is c.requires.fits.fits;
         };
-        answered = c.procedure-verdict.ensures.answered;
+        answered = c.procedure.ensures.answered;
       },
       subst (λ (body : ReplyBody). IsSpelled xid body reply) c.reply_to.ensures is,
     )) c.put-answered.ensures

@@ -44,11 +44,11 @@ returns-in-Ok-Call-clause-serves g c =
 
 pub returns-in-Ok-Closed-clause-serves : goal.returns-in-Ok-Closed-clause-serves
 returns-in-Ok-Closed-clause-serves g c =
-    inr (
+    inr (inl (
       refl,
       sym (rw c.in-Ok-Closed.field-0-is at c.in-Ok-Closed.ensures),
       (refl, refl),
-    )
+    ))
 
 pub returns-in-Err-clause-serves : goal.returns-in-Err-clause-serves
 returns-in-Err-clause-serves g c =
