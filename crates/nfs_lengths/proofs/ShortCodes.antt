@@ -1,7 +1,7 @@
 -- What is spelled in few bytes, of lengths that four bytes tell: a law for each way to make a code, and the items.
-use Rattle.std.proofs.Common.{◌≡◌, ◌∙◌, ap, ℕ, ◌+◌, ◌-◌, ◌*◌, ◌/◌, ◌%◌, ◌≤◌, Bool, true, false, List, [], ◌∷◌, ◌++◌, length}
+use Rattle.std.proofs.Common.{◌≡◌, ℕ, ◌+◌, ◌*◌, ◌/◌, ◌≤◌, Bool, true, false, List, ◌++◌, length}
 use Rattle.std.proofs.Common.{Option, Some, None, IfSome, Result, Ok, Err, IfOk, arith, length-append, refl}
-use Rattle.std.proofs.Common.{nat_lt, replicate, rules}
+use Rattle.std.proofs.Common.{replicate, rules}
 use Rattle.std.proofs.lemmas.List.{length-replicate}
 use Rattle.std.specs.Prelude.{◌||◌}
 use Rattle.std.proofs.lemmas.Bool.{le-ltb}
@@ -10,7 +10,7 @@ use Rattle.nfs_types.specs.declared.handle.Handle.{Handle}
 use Rattle.nfs_types.specs.declared.handle.Stamp.{Stamp}
 use Rattle.nfs_types.specs.declared.status.Status.{Status}
 use Rattle.nfs_types.specs.declared.verifier.Verifier.{Verifier}
-use Rattle.xdr.specs.Codes.{Code, word, double, flag, nothing, ◌then◌, optional, in_some}
+use Rattle.xdr.specs.Codes.{Code, word, double, flag, nothing, ◌then◌, optional}
 use Rattle.xdr.specs.Items as items
 use Rattle.nfs_codec.specs.Items.{moment, device, kind, attributes, optional_attributes, weak_cache_attributes}
 use Rattle.nfs_codec.specs.Items.{before_attributes, handle, text, verifier, weak_cache}

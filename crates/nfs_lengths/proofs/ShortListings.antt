@@ -1,13 +1,11 @@
 -- What a listing tells is short, as the entries that are given have room together.
-use Rattle.std.proofs.Common.{◌≡◌, ◌∙◌, sym, subst, ap, ℕ, ◌+◌, ◌-◌, ◌*◌, ◌/◌, ◌≤◌, Bool, true, false, List, [], ◌∷◌, ◌++◌}
-use Rattle.std.proofs.Common.{length, map, Option, Some, None, IfSome, Ok, Err, arith, length-append, refl, cond, nat_le}
+use Rattle.std.proofs.Common.{◌≡◌, subst, ap, ℕ, ◌+◌, ◌-◌, ◌≤◌, Bool, true, false, List, [], ◌∷◌, ◌++◌}
+use Rattle.std.proofs.Common.{length, map, Option, Some, None, IfSome, arith, length-append, refl, cond, nat_le}
 use Rattle.std.proofs.Common.{rules}
 use Rattle.std.proofs.lemmas.Bool.Decides.{nat_tests}
 use Rattle.std.specs.Option.{option_map}
-use Rattle.base.specs.declared.TheConstants.{LISTED_ITEM_BYTES, LISTED_ITEM_PLUS_BYTES, LISTING_BYTES, LISTING_FRAME}
+use Rattle.base.specs.declared.TheConstants.{LISTING_BYTES}
 use Rattle.nfs_types.specs.declared.entries.ListedItem.{ListedItem}
-use Rattle.nfs_types.specs.declared.entries.ListedItemPlus.{ListedItemPlus}
-use Rattle.nfs_types.specs.declared.verifier.Verifier.{Verifier}
 use Rattle.nfs_spec.specs.Model.Node.{Node}
 use Rattle.nfs_spec.specs.Model.Tree.{Tree, node_at}
 use Rattle.nfs_spec.specs.Procedures.Listing.{listed_bytes, listing_budget, fitting, listing_verifier, padded}

@@ -1,5 +1,5 @@
 -- What is told of a file that was made, found or written is short.
-use Rattle.std.proofs.Common.{◌≡◌, ℕ, ◌+◌, Bool, true, false, cond, List, Option, Some, None, Result, Ok, Err, IfOk}
+use Rattle.std.proofs.Common.{ℕ, Bool, true, false, cond, List, Option, Some, None, Result, Ok, Err, IfOk}
 use Rattle.std.proofs.Common.{refl, arith, rules, length-append}
 use Rattle.base.specs.declared.TheConstants.{EXCLUSIVE_MODE, NEW_FILE_MODE}
 use Rattle.nfs_types.specs.declared.attributes.NewAttributes.{NewAttributes}
@@ -9,10 +9,8 @@ use Rattle.nfs_types.specs.declared.call.Stability.{Stability}
 use Rattle.nfs_types.specs.declared.call.Stability.TheVariants.{Unstable, DataSync, FileSync}
 use Rattle.nfs_types.specs.declared.ctx.Ctx.{Ctx}
 use Rattle.nfs_types.specs.declared.reply.Created.{Created}
-use Rattle.nfs_types.specs.declared.reply.Written.{Written}
 use Rattle.nfs_types.specs.declared.status.Status.{Status}
 use Rattle.nfs_types.specs.declared.status.Status.TheVariants as status
-use Rattle.nfs_types.specs.Verifier.{boot_verifier}
 use Rattle.nfs_spec.specs.Model.Node.{DirentValue, Node}
 use Rattle.nfs_spec.specs.Model.SetAttr.{is_regular, refusal, with_attributes}
 use Rattle.nfs_spec.specs.Model.Tree.{Tree}

@@ -1,10 +1,10 @@
 -- What a procedure may tell is short: its results in a sound tree, and each refusal.
-use Rattle.std.proofs.Common.{◌≡◌, inl, inr, ℕ, ◌+◌, ◌*◌, ◌/◌, ◌≤◌, zero, suc, [], ◌∷◌, Bool, true, false, List}
-use Rattle.std.proofs.Common.{◌++◌, length, Option, Some}
+use Rattle.std.proofs.Common.{◌≡◌, ℕ, ◌+◌, ◌*◌, ◌/◌, ◌≤◌, zero, suc, [], ◌∷◌, true, false, List}
+use Rattle.std.proofs.Common.{length, Option, Some}
 use Rattle.std.proofs.Common.{None, min, take, drop}
 use Rattle.std.proofs.Common.{map as list_map}
 use Rattle.nfs_results.specs.Results.{default_void, behind, before}
-use Rattle.std.proofs.Common.{IfOk, Result, Ok, Err, ◌∙◌, arith, length-append, refl, rules, subst, sym, true≢false}
+use Rattle.std.proofs.Common.{IfOk, Result, Ok, Err, arith, length-append, refl, rules, subst, sym, true≢false}
 use Rattle.std.specs.FinMap as map
 use Rattle.std.specs.Option.{ok_or, option_map}
 use Rattle.base.specs.declared.TheConstants.{LISTING_BYTES, NEW_DIRECTORY_MODE, NEW_LINK_MODE, TARGET_BYTES, TRANSFER_BYTES}
@@ -14,7 +14,7 @@ use Rattle.nfs_spec.specs.Model.Find.{find_file}
 use Rattle.nfs_spec.specs.Model.Node.{Body, Directory, Link, Node, Regular}
 use Rattle.nfs_spec.specs.Model.Refused.{refused as refused_reply}
 use Rattle.nfs_spec.specs.Model.Sound.{Sound, SoundBody}
-use Rattle.nfs_spec.specs.Model.Tree.{Tree, node_at}
+use Rattle.nfs_spec.specs.Model.Tree.{Tree}
 use Rattle.nfs_spec.proofs.ModelLemmas.Answered.{found-stands}
 use Rattle.nfs_spec.specs.Procedures.FirstTests.{found_then, unless}
 use Rattle.nfs_spec.specs.Procedures.Commit as committing
@@ -29,24 +29,21 @@ use Rattle.nfs_spec.specs.Procedures.Places.{named_file}
 use Rattle.nfs_spec.specs.Procedures.Step.{numbered_step, step}
 use Rattle.nfs_spec.specs.Procedures.Write as writing
 use Rattle.nfs_types.specs.declared.reply.Written.{Written}
-use Rattle.nfs_spec.specs.Procedures.StepForms.{Effect, answer_of, handle_of}
+use Rattle.nfs_spec.specs.Procedures.StepForms.{Effect, answer_of}
 use Rattle.nfs_types.specs.Verifier.{boot_verifier}
-use Rattle.nfs_types.specs.declared.attributes.WeakCacheData.{WeakCacheData}
 use Rattle.nfs_types.specs.declared.call.Call as types
 use Rattle.nfs_types.specs.declared.call.Call.TheVariants as call
 use Rattle.nfs_types.specs.declared.ctx.Ctx.{Ctx}
 use Rattle.nfs_types.specs.declared.reply.Created.{Created}
 use Rattle.nfs_types.specs.declared.reply.FileSystemInfo.{FileSystemInfo}
 use Rattle.nfs_types.specs.declared.reply.FileSystemSpace.{FileSystemSpace}
-use Rattle.nfs_types.specs.declared.reply.LookupResult.{LookupResult}
 use Rattle.nfs_types.specs.declared.reply.PathLimits.{PathLimits}
-use Rattle.nfs_types.specs.declared.reply.ReadBytes.{ReadBytes}
 use Rattle.nfs_types.specs.declared.reply.Reply.{Reply}
 use Rattle.nfs_types.specs.declared.reply.Reply.TheVariants as replies
 use Rattle.nfs_types.specs.declared.status.Status.{Status}
 use Rattle.nfs_types.specs.declared.status.Status.TheVariants as status
 use Rattle.nfs_types.specs.declared.verifier.Verifier.{Verifier}
-use Rattle.xdr.specs.Codes.{Code, nothing, word, flag, double, ◌then◌}
+use Rattle.xdr.specs.Codes.{Code, nothing, word, flag, ◌then◌}
 use Rattle.nfs_codec.specs.Items.{attributes, handle, moment, optional_attributes, text, verifier, weak_cache}
 use Rattle.nfs_lengths.specs.Lengths.{IsShort as IsShortReply}
 use Rattle.nfs_results.specs.Results.{nfs_result_bytes, nfs_too_long}

@@ -14,7 +14,7 @@ mod work;
 pub use device_calls::{installer_io, logger_io, worker_io};
 pub use locked::{CoreSummary, Locked, installer_step, logger_step, worker_step};
 pub use pool_requests::{
-    Answer, Bearer, ConnectionKey, Connections, Immediate, Job, Put, Received, ReplyBytes, Stream,
+    Answer, Bearer, ConnectionKey, Connections, Immediate, Job, Received, ReplyBytes, Stream,
 };
 pub use seat::Seat;
 pub use shared::Shared;

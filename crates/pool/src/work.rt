@@ -1,5 +1,6 @@
 //! A worker with its job.
-ghost use Rattle.std.specs.Prelude.{◌≡◌, IfSome, Option, Some};
+ghost use Rattle.std.specs.Prelude.{◌≡◌, IfSome, Option, Some, option_map};
+ghost use Rattle.session_wire.specs.Capacity.{FitsIn};
 ghost use Rattle.pool.specs.Answers.{body_of};
 ghost use Rattle.pool.specs.Stepping.{result_of_step, result_of_commit, result_of_lock_answer, turn_by};
 ghost use Rattle.store_workers.specs.Room.{HasRoomFor};
@@ -196,9 +197,20 @@ fn advance(
     ensures room { IfSome result.1 (λ answer. HasRoomFor result.2 (body_of answer.verdict)) }
 {
     let (made, shown) = worker.step_witnessed(alloc, core);
-    match worker.take_answer() {
-        Some((given, room)) => (made, Some(given), Some(room), shown),
-        None => (made, None, None, shown),
+    let taken = worker.take_answer();
+    let (given, room) = apart(taken);
+    (made, given, room, shown)
+}
+
+// An answer, and the memory into which it fits.
+fn apart(taken: Option<(CallAnswer, ReplyRoom)>) -> (Option<CallAnswer>, Option<ReplyRoom>)
+    requires { IfSome taken (λ one. FitsIn one.1 (body_of one.0.verdict)) }
+    ensures given { result.0 ≡ option_map (λ one. one.0) taken }
+    ensures room { IfSome result.0 (λ answer. HasRoomFor result.1 (body_of answer.verdict)) }
+{
+    match taken {
+        Some((given, room)) => (Some(given), Some(room)),
+        None => (None, None),
     }
 }
 

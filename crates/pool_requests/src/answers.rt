@@ -8,6 +8,6 @@ mod reply_bytes;
 
 pub use answer::Answer;
 pub use answer_laws::{a_reply_answers_one_procedure, an_answer_is_one_that_its_call_may_get};
-pub use backlog::Backlog;
+pub use backlog::{Backlog, CREDITS, Put};
 pub use evidence::Evidence;
-pub use reply_bytes::{Put, ReplyBytes};
+pub use reply_bytes::ReplyBytes;

@@ -6,7 +6,7 @@ mod answers;
 mod jobs;
 
 pub use answers::{
-    Answer, Backlog, Evidence, Put, ReplyBytes, a_reply_answers_one_procedure,
+    Answer, Backlog, CREDITS, Evidence, Put, ReplyBytes, a_reply_answers_one_procedure,
     an_answer_is_one_that_its_call_may_get,
 };
 pub use jobs::{

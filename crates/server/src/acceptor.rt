@@ -68,7 +68,7 @@ where
                     key,
                 } = guest;
                 let (at, number) = key.parts();
-                if scope.spawn(move || writer.write_all(rt, alloc)).is_err() {
+                if scope.spawn(move || writer.write_all(rt)).is_err() {
                     turn_away(rt, server, &*connection, at, number);
                     continue;
                 }
@@ -92,7 +92,7 @@ fn let_in<L: Ledger, G: Whole, I: Whole, P: Port, S, R: Wait + Clock>(
         return None;
     }
     let (key, number) = open.next();
-    let connection = Connection::new(rt, server.alloc, incoming, key, number);
+    let connection = Connection::new(rt, server.alloc, incoming, key, number).ok()?;
     let connection = Arc::new(server.alloc, connection).ok()?;
     let writer = Arc::try_clone(&connection).ok()?;
     let listed = Arc::try_clone(&connection).ok()?;

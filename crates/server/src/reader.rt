@@ -5,7 +5,7 @@ use crate::logger::log_single;
 use crate::state::ServerState;
 use base::{MOST_WAITING_BYTES, REPLY_BATCH_BYTES, STREAM_PIECE_BYTES};
 use disk::{Port, Source};
-use pool::{Answer, ConnectionKey, Put, Received, ReplyBytes, Stream, Whole};
+use pool::{Answer, ConnectionKey, Received, ReplyBytes, Stream, Whole};
 use server_connection::{Buffer, Connection};
 use server_sync::SeatKey;
 use std::alloc::Global;
@@ -59,7 +59,6 @@ fn read_pieces<L: Ledger, G: Whole, I: Whole, P: Port, S: Source, R: Wait + Cloc
     let Ok(mut batch) = Batch::new(server.alloc) else {
         return true;
     };
-    let mut replies = ReplyBytes::new(server.alloc, context.key, context.number);
     let mut stream = Stream::new(server.alloc, of);
     for _ in rt.forever() {
         if !context
@@ -80,7 +79,7 @@ fn read_pieces<L: Ledger, G: Whole, I: Whole, P: Port, S: Source, R: Wait + Cloc
             Ok(empty) => buffer = empty,
             Err(_) => return true,
         }
-        if !serve_records(rt, server, context, &mut stream, &mut batch, &mut replies) {
+        if !serve_records(rt, server, context, &mut stream, &mut batch) {
             return true;
         }
     }
@@ -94,15 +93,14 @@ fn serve_records<L: Ledger, G: Whole, I: Whole, P: Port, S: Source, R: Wait + Cl
     context: &ConnectionContext<'_, L>,
     stream: &mut Stream,
     batch: &mut Batch<L>,
-    replies: &mut ReplyBytes<L>,
 ) -> bool {
     for _ in rt.forever() {
-        let gathered = gather(rt, server, context, stream, batch, replies);
-        let is_well = answer_batch(rt, server, context, batch, replies);
+        let gathered = gather(rt, server, context, stream, batch);
+        let is_well = answer_batch(rt, server, context, batch);
         let goes_on = is_well && gathered != Gathered::Closes;
         let is_over = !goes_on || gathered == Gathered::All;
-        if is_over || replies.len() >= REPLY_BATCH_BYTES {
-            if !write(rt, server.alloc, context, replies) {
+        if is_over || context.connection.has_much(rt, REPLY_BATCH_BYTES) {
+            if !context.connection.write(rt) {
                 return false;
             }
         }
@@ -116,7 +114,7 @@ fn serve_records<L: Ledger, G: Whole, I: Whole, P: Port, S: Source, R: Wait + Cl
 // How far the records that have come whole were gathered.
 #[derive(Clone, Copy, PartialEq, Eq)]
 enum Gathered {
-    // As many as are driven in one batch.
+    // As many as are driven in one batch, or have credits.
     Batch,
     // All of them.
     All,
@@ -124,14 +122,13 @@ enum Gathered {
     Closes,
 }
 
-// Gathers calls, once there is room for their replies, and puts the replies of other records.
+// Gathers calls, each with a credit, and leaves the replies of other records, once few bytes wait.
 fn gather<L: Ledger, G: Whole, I: Whole, P: Port, S, R: Wait>(
     rt: &R,
     server: &ServerState<L, G, I, P, S>,
     context: &ConnectionContext<'_, L>,
     stream: &mut Stream,
     batch: &mut Batch<L>,
-    replies: &mut ReplyBytes<L>,
 ) -> Gathered {
     if !context
         .connection
@@ -140,33 +137,43 @@ fn gather<L: Ledger, G: Whole, I: Whole, P: Port, S, R: Wait>(
         return Gathered::Closes;
     }
     for _ in rt.forever() {
-        if batch.is_full() || replies.len() >= REPLY_BATCH_BYTES {
+        if batch.is_full() {
             return Gathered::Batch;
         }
-        let Ok(next) = stream.next(server.alloc) else {
-            return Gathered::Closes;
+        if !context.connection.take_credit(rt) {
+            return Gathered::Batch;
+        }
+        let is_taken = match stream.next(server.alloc) {
+            Ok(Some(received)) => take_record(rt, server.alloc, context, received, batch),
+            Ok(None) => {
+                context.connection.take_back(rt);
+                return Gathered::All;
+            }
+            Err(_) => false,
         };
-        let Some(received) = next else {
-            return Gathered::All;
-        };
-        if !take_record(server.alloc, received, batch, replies) {
+        if !is_taken {
+            context.connection.take_back(rt);
             return Gathered::Closes;
         }
     }
     Gathered::All
 }
 
-// Puts a call behind the batch, and the reply of another record behind the replies. False where the connection is
-// to end.
-fn take_record<L: Ledger>(
+// Puts a call behind the batch, and leaves the reply of another record for this thread to write. False where the
+// connection is to end: then the record's credit isn't used.
+fn take_record<L: Ledger, R: Wait>(
+    rt: &R,
     alloc: Global,
+    context: &ConnectionContext<'_, L>,
     received: Received,
     batch: &mut Batch<L>,
-    replies: &mut ReplyBytes<L>,
 ) -> bool {
     match received {
         Received::Closed => false,
-        Received::Answered(replied) => put(alloc, Answer::immediate(replied), replies),
+        Received::Answered(replied) => {
+            leave(rt, alloc, context, Answer::immediate(replied));
+            true
+        }
         Received::Job(job) => batch.jobs.push_back(job).is_ok(),
     }
 }
@@ -177,19 +184,18 @@ fn answer_batch<L: Ledger, G: Whole, I: Whole, P: Port, S: Source, R: Wait + Clo
     server: &ServerState<L, G, I, P, S>,
     context: &ConnectionContext<'_, L>,
     batch: &mut Batch<L>,
-    replies: &mut ReplyBytes<L>,
 ) -> bool {
     let mut is_well = true;
     for _ in 0..batch.jobs.len() {
         if batch.jobs.is_empty() {
             break;
         }
-        is_well = answer_some(rt, server, context, batch, replies) && is_well;
+        is_well = answer_some(rt, server, context, batch) && is_well;
     }
     is_well
 }
 
-// Drives calls of a batch, leaves those to the log that wait to be settled, puts the replies of the others, and drives the one
+// Drives calls of a batch, leaves those to the log that wait to be settled, leaves the replies of the others, and drives the one
 // that was held up to its answer; where no seat is free, hands the first on. One that is alone is settled by this
 // thread, by the logger's seat. So what a seat has taken is waited for by no other of this connection, and nothing is
 // written while a seat is in hand. False where the connection is to end.
@@ -198,33 +204,30 @@ fn answer_some<L: Ledger, G: Whole, I: Whole, P: Port, S: Source, R: Wait + Cloc
     server: &ServerState<L, G, I, P, S>,
     context: &ConnectionContext<'_, L>,
     batch: &mut Batch<L>,
-    replies: &mut ReplyBytes<L>,
 ) -> bool {
     // Who has replies to write, or another call to drive, doesn't wait for the device.
-    let logs = replies.len() == 0 && batch.jobs.len() == 1;
+    let logs = batch.jobs.len() == 1 && context.connection.waiting(rt) == 0;
     let outcome = drive_batch(rt, server, batch, logs);
     let mut is_well = outcome.is_well;
     for _ in 0..batch.waiting.len() {
         let Some(awaiting_log) = batch.waiting.pop_front() else {
             break;
         };
-        context.connection.hand_on(rt);
         if outcome.is_single {
             log_single(rt, server, awaiting_log.place);
         }
         if let Err(key) = server.sync.log_waits.await_log(rt, awaiting_log) {
-            is_well = drive_on(rt, server, context, key, replies) && is_well;
+            is_well = drive_on(rt, server, context, key) && is_well;
         }
     }
     for _ in 0..batch.answers.len() {
         let Some(answer) = batch.answers.pop_front() else {
             break;
         };
-        is_well = put(server.alloc, answer, replies) && is_well;
+        leave(rt, server.alloc, context, answer);
     }
     if let Some(key) = batch.held_up.take() {
-        context.connection.hand_on(rt);
-        is_well = drive_on(rt, server, context, key, replies) && is_well;
+        is_well = drive_on(rt, server, context, key) && is_well;
     }
     if outcome.is_crowded {
         wait_while_crowded(rt, server);
@@ -235,7 +238,6 @@ fn answer_some<L: Ledger, G: Whole, I: Whole, P: Port, S: Source, R: Wait + Cloc
     match batch.jobs.pop_front() {
         None => is_well,
         Some(job) => {
-            context.connection.hand_on(rt);
             let is_put = server.sync.jobs.put(rt, job);
             if !is_put {
                 context.connection.take_back(rt);
@@ -245,20 +247,19 @@ fn answer_some<L: Ledger, G: Whole, I: Whole, P: Port, S: Source, R: Wait + Cloc
     }
 }
 
-// Drives a seat, whose call counts as handed on, to its answer, and puts the reply. Where its change waits to be
-// settled it waits for the log. False where memory is refused for the reply, or no call is there to be answered.
+// Drives a seat to the answer of its call, and leaves the reply. Where its change waits to be settled it waits for the log.
+// False where no call is there to be answered.
 fn drive_on<L: Ledger, G: Whole, I: Whole, P: Port, S: Source, R: Wait + Clock>(
     rt: &R,
     server: &ServerState<L, G, I, P, S>,
     context: &ConnectionContext<'_, L>,
     key: SeatKey,
-    replies: &mut ReplyBytes<L>,
 ) -> bool {
     match see_through(rt, server, key) {
         Seen::SeatAwaitingLog => true,
         Seen::Answered(answer) => {
-            context.connection.take_back(rt);
-            put(server.alloc, answer, replies)
+            leave(rt, server.alloc, context, answer);
+            true
         }
         Seen::Nothing => {
             context.connection.take_back(rt);
@@ -267,20 +268,12 @@ fn drive_on<L: Ledger, G: Whole, I: Whole, P: Port, S: Source, R: Wait + Clock>(
     }
 }
 
-// Writes the replies, if there are any. False where no more can be written.
-fn write<L: Ledger, R: Wait + Clock>(
+// Leaves the reply of an answer for this thread to write: it takes no memory.
+fn leave<L: Ledger, R: Wait>(
     rt: &R,
     alloc: Global,
     context: &ConnectionContext<'_, L>,
-    replies: &mut ReplyBytes<L>,
-) -> bool {
-    if replies.len() == 0 {
-        return true;
-    }
-    context.connection.write(rt, alloc, replies)
-}
-
-// Puts the bytes of an answer behind others. False where memory is refused, or it isn't for their connection.
-fn put<L: Ledger>(alloc: Global, answer: Answer<L>, replies: &mut ReplyBytes<L>) -> bool {
-    replies.put(alloc, answer) == Put::Done
+    answer: Answer<L>,
+) {
+    context.connection.leave(rt, ReplyBytes::of(alloc, answer));
 }

@@ -1,11 +1,11 @@
 //! A connection: its stream, and the replies that wait to be written to it.
-ghost use Rattle.std.specs.Prelude.{◌≡◌, []};
+ghost use Rattle.std.specs.Prelude.{◌-◌, ◌^◌, ◌<◌};
 
 use crate::piece::{Buffer, Came, Piece, read_piece};
-use crate::{Incoming, Offer, Outbox, Permit, Unwritten, Written};
+use crate::{Incoming, Outbox, Permit, Unwritten, Written};
 use pool_requests::{Backlog, ReplyBytes};
 use server_sync::steady_second;
-use std::alloc::Global;
+use std::alloc::{AllocError, Global};
 use std::net::{Shutdown, TcpStream};
 use std::sync::ledger::Ledger;
 use std::sync::{Condvar, Mutex, Wait};
@@ -37,22 +37,23 @@ impl<L: Ledger> Connection<L> {
         incoming: Incoming,
         key: usize,
         number: u64,
-    ) -> Connection<L> {
+    ) -> Result<Connection<L>, AllocError> {
         let Incoming { stream } = incoming;
-        Connection {
+        let outbox = Outbox::new(alloc, key, number, steady_second(rt))?;
+        Ok(Connection {
             stream,
-            outbox: Mutex::new(Outbox::new(alloc, key, number, steady_second(rt))),
+            outbox: Mutex::new(outbox),
             to_write: Condvar::new(),
             written: Condvar::new(),
-        }
+        })
     }
 
-    /// Notes that a call is handed on, which another thread will answer.
-    pub fn hand_on<R: Wait>(&self, rt: &R) {
-        self.outbox.lock(rt).hand_on();
+    /// Takes a credit for the next call, where there is one: with it there is a place for its reply.
+    pub fn take_credit<R: Wait>(&self, rt: &R) -> bool {
+        self.outbox.lock(rt).take_credit()
     }
 
-    /// Puts the reply of a call that was handed on, or lets the call go where there is none, for the
+    /// Puts the reply of a call that another thread has driven, or lets the call go where there is none, for the
     /// connection's own thread to write.
     pub fn answer<R: Wait>(&self, rt: &R, reply: Option<ReplyBytes<L>>) {
         let mut outbox = self.outbox.lock(rt);
@@ -68,64 +69,52 @@ impl<L: Ledger> Connection<L> {
         }
     }
 
-    /// Takes back that a call was handed on.
+    /// Puts the reply of a call that the thread that reads has driven, for it to write.
+    pub fn leave<R: Wait>(&self, rt: &R, reply: ReplyBytes<L>) {
+        self.outbox.lock(rt).answer(Some(reply));
+    }
+
+    /// Gives back a credit that no reply uses.
     pub fn take_back<R: Wait>(&self, rt: &R) {
         self.outbox.lock(rt).take_back();
     }
 
-    /// Writes replies, or leaves them to the thread that writes: they are used up. False where no more can be written, or
-    /// they are for another connection.
-    pub fn write<R: Wait + Clock>(&self, rt: &R, alloc: Global, replies: &mut ReplyBytes<L>) -> bool
-        ensures { replies.new.bytes ≡ [] }
-    {
-        let is_well = self.write_once(rt, alloc, replies);
-        replies.empty_out();
-        is_well
+    /// Whether so many bytes wait that they are to be written before the next call comes, or no call has a credit.
+    pub fn has_much<R: Wait>(&self, rt: &R, most: usize) -> bool {
+        let outbox = self.outbox.lock(rt);
+        outbox.waiting() >= most || !outbox.has_credit()
     }
 
-    // The same, but that they are let go of by the caller.
-    fn write_once<R: Wait + Clock>(
-        &self,
-        rt: &R,
-        alloc: Global,
-        replies: &mut ReplyBytes<L>,
-    ) -> bool {
+    /// How many bytes wait.
+    pub fn waiting<R: Wait>(&self, rt: &R) -> usize {
+        self.outbox.lock(rt).waiting()
+    }
+
+    /// Writes what waits, or leaves it to the thread that writes. False where no more can be written.
+    pub fn write<R: Wait + Clock>(&self, rt: &R) -> bool {
         let mut outbox = self.outbox.lock(rt);
-        let permit = match outbox.offer(replies) {
-            Offer::Write(permit) => permit,
-            Offer::Left => {
-                let is_writing = outbox.is_writing();
-                let is_shut = outbox.is_shut();
-                drop(outbox);
-                if !is_writing {
-                    self.to_write.notify_one();
-                }
-                return !is_shut;
-            }
-            Offer::Shut => return false,
+        if outbox.is_shut() {
+            return false;
+        }
+        let Some((permit, taken)) = outbox.start() else {
+            return true;
         };
         drop(outbox);
-        let wrote = permit.write(&mut &self.stream, replies.as_slice());
-        self.write_rest(rt, alloc, wrote)
+        self.write_rest(rt, permit, taken)
     }
 
-    // Writes what waits, until nothing does. The calling thread is the one that writes, and this came of its last write.
-    // False where a write failed.
-    fn write_rest<R: Wait + Clock>(
-        &self,
-        rt: &R,
-        alloc: Global,
-        wrote: Result<Written, Unwritten>,
-    ) -> bool {
-        let mut wrote = wrote;
-        let mut batch = Backlog::new(alloc, 0, 0);
+    // Writes these, and then what waits, until nothing does. The calling thread is the one that writes. False where a write
+    // failed.
+    fn write_rest<R: Wait + Clock>(&self, rt: &R, permit: Permit, taken: Backlog<L>) -> bool {
+        let mut batch = taken;
+        let mut wrote = permit.write(&mut &self.stream, &mut batch);
         for _ in rt.forever() {
             let is_done = wrote.is_ok();
             let Some((permit, next)) = self.next_batch(rt, wrote, batch) else {
                 return is_done;
             };
-            wrote = permit.write(&mut &self.stream, next.as_slice());
             batch = next;
+            wrote = permit.write(&mut &self.stream, &mut batch);
         }
         wrote.is_ok()
     }
@@ -147,19 +136,18 @@ impl<L: Ledger> Connection<L> {
 
     /// Writes what other threads put, until no call comes any more and nothing waits, or a write fails; and ends the
     /// stream.
-    pub fn write_all<R: Wait + Clock>(&self, rt: &R, alloc: Global) {
-        self.write_others(rt, alloc);
+    pub fn write_all<R: Wait + Clock>(&self, rt: &R) {
+        self.write_others(rt);
         // Who reads learns of it where a write failed.
         self.close();
     }
 
-    fn write_others<R: Wait + Clock>(&self, rt: &R, alloc: Global) {
+    fn write_others<R: Wait + Clock>(&self, rt: &R) {
         for _ in rt.forever() {
-            let Some((permit, taken)) = self.take_for_writer(rt, alloc) else {
+            let Some((permit, taken)) = self.take_for_writer(rt) else {
                 return;
             };
-            let wrote = permit.write(&mut &self.stream, taken.as_slice());
-            self.write_rest(rt, alloc, wrote);
+            self.write_rest(rt, permit, taken);
         }
     }
 
@@ -183,18 +171,20 @@ impl<L: Ledger> Connection<L> {
     }
 
     // Waits until the connection's own writer has something to write, and takes it. None where nothing more will come.
-    fn take_for_writer<R: Wait>(&self, rt: &R, alloc: Global) -> Option<(Permit, Backlog<L>)> {
+    fn take_for_writer<R: Wait>(&self, rt: &R) -> Option<(Permit, Backlog<L>)> {
         let mut outbox = self
             .to_write
             .wait_while(rt, self.outbox.lock(rt), |o| o.holds_writer_waiting());
-        outbox.begin(Backlog::new(alloc, 0, 0))
+        outbox.begin()
     }
 
-    /// Waits until no more than so many bytes wait. False where no more can be written.
-    pub fn wait_for_send_window<R: Wait>(&self, rt: &R, most: usize) -> bool {
+    /// Waits until no more than so many bytes wait, and a call has a credit. False where no more can be written.
+    pub fn wait_for_send_window<R: Wait>(&self, rt: &R, most: usize) -> bool
+        requires { most < 2 ^ 64 - 1 }
+    {
         let outbox = self
             .written
-            .wait_while(rt, self.outbox.lock(rt), |o| !o.has_send_window(most));
+            .wait_while(rt, self.outbox.lock(rt), |o| !o.lets_in(most));
         !outbox.is_shut()
     }
 

@@ -9,6 +9,6 @@ mod replies;
 
 pub use connection::{Connection, Gone};
 pub use incoming::Incoming;
-pub use outbox::{Offer, Outbox};
+pub use outbox::Outbox;
 pub use piece::{Buffer, Piece};
 pub use replies::{Permit, Replies, Unwritten, Written};

@@ -1,32 +1,22 @@
 //! What a connection still has to be sent: the bytes of answers to it, and of nothing else.
-ghost use Rattle.std.specs.Prelude.{◌≡◌, ◌≢◌, ◌↔◌, ◌⊎◌, ◌+◌, ◌-◌, ◌^◌, ◌<◌, ◌≤◌, ◌||◌, [], true, false, not, max, min, IsTrue, IfSome, IfNone, length};
+ghost use Rattle.std.specs.Prelude.{◌≡◌, ◌≢◌, ◌↔◌, ◌⊎◌, ◌+◌, ◌-◌, ◌^◌, ◌<◌, ◌≤◌, ◌||◌, true, false, not, max, min, IsTrue, IfOk, IfSome, IfNone, length};
 
 use crate::{Permit, Replies, Unwritten, Written};
-use pool_requests::{Backlog, Put, ReplyBytes};
+use pool_requests::{Backlog, CREDITS, Put, ReplyBytes};
 use server_sync::Silence;
-use std::alloc::Global;
+use std::alloc::{AllocError, Global};
 use std::marker::Model;
 use std::sync::ledger::Ledger;
 
-/// What becomes of replies that a thread would write.
-#[derive(Drop)]
-pub enum Offer {
-    /// That thread writes them, as it has the permit: nothing waits, and no other thread writes.
-    Write(Permit),
-    /// They were left behind all that waits, where memory wasn't refused for them.
-    Left,
-    /// They were let go: no more is written, or they are for another connection.
-    Shut,
-}
-
 /// The replies of a connection that wait to be written, what its end waits for besides, and how long it has been silent.
-/// Its type keeps that none waits once no more is written.
+/// Its type keeps that none waits once no more is written, and that there is a place for the reply of each call that is under
+/// way: replies that wait and calls under way are no more than its credits.
 #[derive(Drop)]
 pub struct Outbox<L: Ledger> {
     replies: Replies<L>,
-    // How many calls were handed on and are neither answered nor let go.
-    due: u64,
-    // Whether no more is written, since a write failed or memory was refused.
+    // How many calls are under way: each has a credit, and is neither answered nor let go.
+    due: usize,
+    // Whether no more is written, since a write failed or a call wasn't answered.
     shut: bool,
     // Whether no call comes any more.
     ended: bool,
@@ -34,7 +24,6 @@ pub struct Outbox<L: Ledger> {
 }
 
 impl<L: Ledger> Model for Outbox<L> {
-    ghost use Rattle.std.specs.Prelude.{◌≡◌, [], true};
     ghost use Rattle.server_connection.specs.Outbox.{Outbox};
 
     ghost Value = { Outbox };
@@ -47,105 +36,124 @@ impl<L: Ledger> Model for Outbox<L> {
       silence = o.silence;
     } };
 
-    ghost invariant = { λ o. o.shut ≡ true → o.replies.pending.bytes ≡ [] };
+    ghost use Rattle.server_connection.specs.Outbox.{IsWithinCredits};
+
+    ghost invariant = { λ o. IsWithinCredits o.replies.pending.count o.due o.shut };
 }
 
 impl<L: Ledger> Outbox<L> {
-    ghost use Rattle.pool_requests.specs.Answers.Written.{AreForOne, none_of, nothing_for};
-    ghost use Rattle.server_connection.specs.Outbox.{Becomes, IsLeft, IsDone, IsForWriter, IsSilent, has_failed};
+    ghost use Rattle.pool_requests.specs.Answers.Written.{nothing_for};
+    ghost use Rattle.pool_requests.specs.declared.answers.backlog.TheConstants.{CREDITS};
+    ghost use Rattle.server_connection.specs.Outbox.{IsLeft, IsDone, IsForWriter, IsSilent, has_failed};
 
     /// Nothing waits, of the connection of this key and number, which came at this second.
-    pub fn new(alloc: Global, key: usize, number: u64, second: u64) -> Outbox<L>
-        ensures pending { result.replies.pending ≡ nothing_for key number result.replies.pending.buffer_capacity }
-        ensures writing { result.replies.writing ≡ false }
-        ensures due { result.due ≡ 0 }
-        ensures goes_on { (result.shut ≡ false) × (result.ended ≡ false) }
-        ensures silence { result.silence ≡ record { last = second; listens = false } }
+    pub fn new(
+        alloc: Global,
+        key: usize,
+        number: u64,
+        second: u64,
+    ) -> Result<Outbox<L>, AllocError>
+        ensures pending { IfOk result (λ outbox. outbox.replies.pending ≡ nothing_for key number) }
+        ensures writing { IfOk result (λ outbox. outbox.replies.writing ≡ false) }
+        ensures due { IfOk result (λ outbox. outbox.due ≡ 0) }
+        ensures goes_on { IfOk result (λ outbox. (outbox.shut ≡ false) × (outbox.ended ≡ false)) }
+        ensures silence { IfOk result (λ outbox. outbox.silence ≡ record { last = second; listens = false }) }
     {
-        Outbox {
-            replies: Replies::new(alloc, key, number),
+        Ok(Outbox {
+            replies: Replies::new(alloc, key, number)?,
             due: 0,
             shut: false,
             ended: false,
             silence: Silence::new(second),
-        }
+        })
     }
 
-    /// Notes that a call is handed on.
-    pub fn hand_on(&mut self)
-        ensures { self.new ≡ record self.old { due = min (self.old.due + 1) (2 ^ 64 - 1) } }
+    /// Takes a credit for a call, where there is one: with it there is a place for its reply.
+    pub fn take_credit(&mut self) -> bool
+        ensures taken { result ≡ true → self.new ≡ record self.old { due = self.old.due + 1 } }
+        ensures none { result ≡ false → (self.new ≡ self.old)
+            × (CREDITS ≤ self.old.replies.pending.count + self.old.due) }
     {
-        self.due = self.due.saturating_add(1);
+        if self.replies.count() + self.due >= CREDITS {
+            return false;
+        }
+        self.due += 1;
+        true
     }
 
-    /// Takes back that a call was handed on.
+    /// Whether there is a credit.
+    pub fn has_credit(&self) -> bool
+        ensures { IsTrue result ↔ (self.now.replies.pending.count + self.now.due < CREDITS) }
+    {
+        self.replies.count() + self.due < CREDITS
+    }
+
+    /// Gives back a credit that no reply uses.
     pub fn take_back(&mut self)
         ensures { self.new ≡ record self.old { due = self.old.due - 1 } }
     {
         self.due = self.due.saturating_sub(1);
     }
 
-    /// Puts the reply of a call that was handed on, or shuts where there is none.
+    /// Puts the reply of a call that is under way, which gives its credit back, or shuts where there is none. It takes no
+    /// memory. Where no call is under way, or the reply is for another connection, it shuts.
     pub fn answer(&mut self, reply: Option<ReplyBytes<L>>)
         ensures due { self.new.due ≡ self.old.due - 1 }
-        ensures left { IfSome reply (λ replies. IsLeft self.old replies self.new) }
+        ensures left { IfSome reply (λ one. IsLeft self.old one self.new) }
         ensures none { IfNone reply (self.new.shut ≡ true) }
         ensures writing { self.new.replies.writing ≡ self.old.replies.writing }
         ensures ended { self.new.ended ≡ self.old.ended }
         ensures silence { self.new.silence ≡ self.old.silence }
     {
-        self.take_back();
-        match reply {
-            Some(replies) => {
-                let mut replies = replies;
-                self.leave(&mut replies);
-            }
-            None => self.shut(),
+        if self.shut {
+            self.due = self.due.saturating_sub(1);
+            return;
         }
-    }
-
-    /// Leaves replies behind all that waits, which uses them up, and shuts where they are for another connection, or
-    /// memory is refused for them. Once no more is written they are let go.
-    pub fn leave(&mut self, replies: &mut ReplyBytes<L>)
-        ensures left { IsLeft self.old replies.old self.new }
-        ensures used { self.new.shut ≡ false → replies.new ≡ none_of replies.old }
-        ensures due { self.new.due ≡ self.old.due }
-        ensures ended { self.new.ended ≡ self.old.ended }
-        ensures silence { self.new.silence ≡ self.old.silence }
-    {
-        if !self.shut && self.replies.put(replies) != Put::Done {
+        let Some(reply) = reply else {
+            self.due = self.due.saturating_sub(1);
+            self.shut();
+            return;
+        };
+        if self.due == 0 {
+            self.shut();
+            return;
+        }
+        self.due -= 1;
+        if self.replies.put(reply) != Put::Done {
             self.shut();
         }
     }
 
-    /// What becomes of replies that a thread would write: where it writes them it is from then on the one that writes.
-    pub fn offer(&mut self, replies: &mut ReplyBytes<L>) -> Offer
-        ensures becomes { Becomes self.old replies.old result replies.new self.new }
+    /// Makes the calling thread the one that writes, where no other does, and hands it all that waits. None where another
+    /// writes, or nothing waits, or no more is written.
+    pub fn start(&mut self) -> Option<(Permit, Backlog<L>)>
+        ensures taken { IfSome result (λ taken. (taken.1 ≡ self.old.replies.pending) × (taken.1.count ≢ 0)
+            × (self.old.replies.writing ≡ false)
+            × (self.new.replies.pending.count ≡ 0) × (self.new.replies.writing ≡ true)) }
+        ensures nothing { IfNone result (((self.old.shut ≡ true) ⊎ (self.old.replies.writing ≡ true)
+            ⊎ (self.old.replies.pending.count ≡ 0)) × (self.new ≡ self.old)) }
+        ensures shut { self.new.shut ≡ self.old.shut }
         ensures due { self.new.due ≡ self.old.due }
         ensures ended { self.new.ended ≡ self.old.ended }
         ensures silence { self.new.silence ≡ self.old.silence }
     {
-        if self.shut || !self.replies.are_for(replies) {
-            return Offer::Shut;
+        if self.shut {
+            return None;
         }
-        if let Some(permit) = self.replies.begin() {
-            return Offer::Write(permit);
-        }
-        self.leave(replies);
-        Offer::Left
+        self.replies.start()
     }
 
-    /// What the thread that writes writes next, when its last write took all bytes or failed: all that waits, in a buffer
-    /// that is used again. None where nothing waits: then no thread writes any more.
+    /// What the thread that writes writes next, when its last write took all bytes or failed: all that waits, for places
+    /// that are used again. None where nothing waits: then no thread writes any more.
     pub fn go_on(
         &mut self,
         wrote: Result<Written, Unwritten>,
         used: Backlog<L>,
     ) -> Option<(Permit, Backlog<L>)>
         ensures taken { IfSome result (λ taken. (has_failed wrote ≡ false) × (taken.1 ≡ self.old.replies.pending)
-            × (taken.1.bytes ≢ []) × (self.new.replies.pending.bytes ≡ []) × (self.new.replies.writing ≡ true)) }
-        ensures nothing { IfNone result ((has_failed wrote ≡ false → self.old.replies.pending.bytes ≡ [])
-            × (self.new.replies.pending.bytes ≡ []) × (self.new.replies.writing ≡ false)) }
+            × (taken.1.count ≢ 0) × (self.new.replies.pending.count ≡ 0) × (self.new.replies.writing ≡ true)) }
+        ensures nothing { IfNone result ((has_failed wrote ≡ false → self.old.replies.pending.count ≡ 0)
+            × (self.new.replies.pending.count ≡ 0) × (self.new.replies.writing ≡ false)) }
         ensures shut { self.new.shut ≡ (self.old.shut || has_failed wrote) }
         ensures due { self.new.due ≡ self.old.due }
         ensures ended { self.new.ended ≡ self.old.ended }
@@ -162,7 +170,7 @@ impl<L: Ledger> Outbox<L> {
     pub fn is_for_writer(&self) -> bool
         ensures { IsTrue result ↔ IsForWriter self.now }
     {
-        self.ended || self.shut || (!self.replies.is_writing() && self.replies.waiting() != 0)
+        self.ended || self.shut || (!self.replies.is_writing() && self.replies.count() != 0)
     }
 
     /// Whether the connection's own writer has to wait.
@@ -175,11 +183,11 @@ impl<L: Ledger> Outbox<L> {
 
     /// Makes the connection's own writer the thread that writes, and hands it all that waits. None where it has
     /// nothing more to wait for.
-    pub fn begin(&mut self, used: Backlog<L>) -> Option<(Permit, Backlog<L>)>
+    pub fn begin(&mut self) -> Option<(Permit, Backlog<L>)>
         requires { IsForWriter self.old }
-        ensures taken { IfSome result (λ taken. (taken.1 ≡ self.old.replies.pending) × (taken.1.bytes ≢ [])
+        ensures taken { IfSome result (λ taken. (taken.1 ≡ self.old.replies.pending) × (taken.1.count ≢ 0)
             × (self.old.replies.writing ≡ false)
-            × (self.new.replies.pending.bytes ≡ []) × (self.new.replies.writing ≡ true)) }
+            × (self.new.replies.pending.count ≡ 0) × (self.new.replies.writing ≡ true)) }
         ensures ends { IfNone result (((self.old.ended ≡ true) ⊎ (self.old.shut ≡ true)) × (self.new ≡ self.old)) }
         ensures shut { self.new.shut ≡ self.old.shut }
         ensures due { self.new.due ≡ self.old.due }
@@ -189,14 +197,29 @@ impl<L: Ledger> Outbox<L> {
         if self.ended || self.shut {
             return None;
         }
-        self.replies.start(used)
+        self.replies.start()
     }
 
     /// Whether no more than so many bytes wait, or no more is written.
     pub fn has_send_window(&self, most: usize) -> bool
+        requires { most < 2 ^ 64 - 1 }
         ensures { IsTrue result ↔ ((self.now.shut ≡ true) ⊎ (length self.now.replies.pending.bytes ≤ most)) }
     {
         self.shut || self.replies.waiting() <= most
+    }
+
+    /// Whether the next call may come: no more than so many bytes wait, and it has a credit; or no more is written.
+    pub fn lets_in(&self, most: usize) -> bool
+        requires { most < 2 ^ 64 - 1 }
+    {
+        self.shut || (self.has_send_window(most) && self.has_credit())
+    }
+
+    /// How many bytes wait, up to the greatest number.
+    pub fn waiting(&self) -> usize
+        ensures { result ≡ min (length self.now.replies.pending.bytes) (2 ^ 64 - 1) }
+    {
+        self.replies.waiting()
     }
 
     /// Whether no more is written.
@@ -217,7 +240,7 @@ impl<L: Ledger> Outbox<L> {
     pub fn is_done(&self) -> bool
         ensures { IsTrue result ↔ IsDone self.now }
     {
-        self.shut || (self.due == 0 && self.replies.waiting() == 0 && !self.replies.is_writing())
+        self.shut || (self.due == 0 && self.replies.count() == 0 && !self.replies.is_writing())
     }
 
     /// Notes that no call comes any more.
@@ -231,7 +254,7 @@ impl<L: Ledger> Outbox<L> {
     /// Lets go all that waits, and writes no more.
     pub fn shut(&mut self)
         ensures shut { self.new.shut ≡ true }
-        ensures pending { self.new.replies.pending.bytes ≡ [] }
+        ensures pending { self.new.replies.pending.count ≡ 0 }
         ensures writing { self.new.replies.writing ≡ self.old.replies.writing }
         ensures due { self.new.due ≡ self.old.due }
         ensures ended { self.new.ended ≡ self.old.ended }
@@ -288,7 +311,7 @@ impl<L: Ledger> Outbox<L> {
     pub fn close_if_idle(&mut self, second: u64, most: u64) -> bool
         ensures given { (result ≡ true) ↔ (IsSilent self.old × (most < second - self.old.silence.last)) }
         ensures ends { result ≡ true → (self.new.shut ≡ true) × (self.new.ended ≡ true)
-            × (self.new.replies.pending.bytes ≡ []) × (self.new.replies.writing ≡ false) }
+            × (self.new.replies.pending.count ≡ 0) × (self.new.replies.writing ≡ false) }
         ensures stays { result ≡ false → self.new ≡ self.old }
     {
         match self.silent(second) {

@@ -1,21 +1,25 @@
 //! Replies that wait to be written to a connection.
-ghost use Rattle.std.specs.Prelude.{◌≡◌, ◌≢◌, ◌+◌, ◌<◌, ◌↔◌, [], true, false, IfSome, IfNone, OnOk, length, IsTrue};
+ghost use Rattle.std.specs.Prelude.{◌≡◌, ◌≢◌, ◌+◌, ◌^◌, ◌<◌, ◌++◌, [], true, false, Ok, IfSome, IfNone, IfOk, OnOk, length, min};
 ghost use Rattle.std.specs.Io.KnownBytes.{Appends};
-ghost use Rattle.pool_requests.specs.Answers.Written.{AreForOne, none_of, nothing_for, with_more};
-ghost use Rattle.pool_requests.specs.declared.answers.reply_bytes.Put.TheVariants as puts;
+ghost use Rattle.pool_requests.specs.Answers.Written.{AreForOne, nothing_for, with_more};
+ghost use Rattle.pool_requests.specs.declared.answers.backlog.Put.TheVariants as puts;
+ghost use Rattle.pool_requests.specs.declared.answers.backlog.TheConstants.{CREDITS};
 
+use base::REPLY_BATCH_BYTES;
 use pool_requests::{Backlog, Put, ReplyBytes};
-use std::alloc::Global;
-use std::io::Write;
+use std::alloc::{AllocError, Global};
+use std::io::{self, Write};
 use std::marker::Model;
 use std::mem;
 use std::sync::ledger::Ledger;
 
-/// The permit to write to a connection. One is made, with the connection, and can't be copied: who has it is the thread that
-/// writes. A write uses it up, and what came of the write gives it back.
+/// The permit to write to a connection, with the buffer in which short replies are gathered. One is made, with the
+/// connection, and can't be copied: who has it is the thread that writes. A write uses it up, and what came of the write
+/// gives it back.
 #[derive(Drop)]
 pub struct Permit {
-    seal: (),
+    gathered: Vec<u8>,
+    pub ghost empty: { gathered.items ≡ [] },
 }
 
 /// A write that took all bytes. Nothing else makes one.
@@ -31,23 +35,77 @@ pub struct Unwritten {
 }
 
 impl Permit {
-    /// Writes bytes to a stream.
-    pub fn write<W: Write>(self, stream: &mut W, bytes: &[u8]) -> Result<Written, Unwritten>
-        ensures { OnOk result (Appends (W.contents stream.old) (W.contents stream.new) bytes.now) }
+    /// Writes all replies of a backlog to a stream, in their order, which uses them up. It takes no memory.
+    pub fn write<L: Ledger, W: Write>(
+        self,
+        stream: &mut W,
+        replies: &mut Backlog<L>,
+    ) -> Result<Written, Unwritten>
+        ensures { OnOk result (Appends (W.contents stream.old) (W.contents stream.new) replies.old.bytes) }
     {
-        match stream.write_all(bytes) {
-            Ok(()) => Ok(Written { permit: self }),
-            Err(_) => Err(Unwritten { permit: self }),
+        let mut gathered = self.gathered;
+        let wrote = write_each(stream, &mut gathered, replies);
+        gathered.clear();
+        let permit = Permit { gathered };
+        match wrote {
+            Ok(()) => Ok(Written { permit }),
+            Err(_) => Err(Unwritten { permit }),
         }
     }
 }
 
-/// The replies of a connection that wait to be written, in the order in which they were put, and the permit to write, where
-/// no thread has it. The thread that writes goes on until nothing waits.
+// Writes all replies, the short ones gathered.
+fn write_each<L: Ledger, W: Write>(
+    stream: &mut W,
+    gathered: &mut Vec<u8>,
+    replies: &mut Backlog<L>,
+) -> io::Result<()>
+    requires { gathered.old.items ≡ [] }
+    ensures { OnOk result (Appends (W.contents stream.old) (W.contents stream.new) replies.old.bytes) }
+{
+    'each: for _ in 0..replies.count() {
+        let Some(reply) = replies.take_first() else {
+            break;
+        };
+        write_behind(stream, gathered, reply.as_slice())?;
+    }
+    write_gathered(stream, gathered)
+}
+
+// Gathers a short reply behind others, or writes it behind them.
+fn write_behind<W: Write>(
+    stream: &mut W,
+    gathered: &mut Vec<u8>,
+    reply: &[u8],
+) -> io::Result<()> {
+    if gathered.len().saturating_add(reply.len()) > REPLY_BATCH_BYTES {
+        write_gathered(stream, gathered)?;
+    }
+    if reply.len() <= REPLY_BATCH_BYTES && gathered.extend_from_slice(reply).is_ok() {
+        return Ok(());
+    }
+    write_gathered(stream, gathered)?;
+    stream.write_all(reply)
+}
+
+// Writes what was gathered, if anything was.
+fn write_gathered<W: Write>(stream: &mut W, gathered: &mut Vec<u8>) -> io::Result<()> {
+    if gathered.is_empty() {
+        return Ok(());
+    }
+    stream.write_all(gathered.as_slice())?;
+    gathered.clear();
+    Ok(())
+}
+
+/// The replies of a connection that wait to be written, in the order in which they were put; and, where no thread writes,
+/// the permit to write, with places for as many replies. The thread that writes goes on until nothing waits.
 #[derive(Drop)]
 pub struct Replies<L: Ledger> {
     pending: Backlog<L>,
-    permit: Option<Permit>,
+    // How many bytes they are, up to the greatest number.
+    waiting: usize,
+    idle: Option<(Permit, Backlog<L>)>,
 }
 
 impl<L: Ledger> Model for Replies<L> {
@@ -55,129 +113,124 @@ impl<L: Ledger> Model for Replies<L> {
 
     ghost Value = { Replies };
 
-    ghost view = { λ r. record { pending = r.pending; writing = is_away r.permit } };
+    ghost view = { λ r. record { pending = r.pending; writing = is_away r.idle } };
+
+    ghost use Rattle.std.specs.Prelude.{◌≡◌, ◌×◌, ◌^◌, ◌-◌, IfSome, length, min};
+    ghost use Rattle.pool_requests.specs.Answers.Written.{nothing_for};
+
+    ghost invariant = { λ r. (r.waiting ≡ min (length r.pending.bytes) (2 ^ 64 - 1))
+        × IfSome r.idle (λ idle. idle.1 ≡ nothing_for r.pending.key r.pending.number) };
 }
 
 impl<L: Ledger> Replies<L> {
-    /// Nothing waits for the connection of this key and number, and no thread writes.
-    pub fn new(alloc: Global, key: usize, number: u64) -> Replies<L>
-        ensures pending { result.pending ≡ nothing_for key number result.pending.buffer_capacity }
-        ensures writing { result.writing ≡ false }
+    ghost use Rattle.std.specs.Prelude.{◌-◌};
+
+    /// Nothing waits for the connection of this key and number, and no thread writes. All the memory that they need is
+    /// taken here.
+    pub fn new(alloc: Global, key: usize, number: u64) -> Result<Replies<L>, AllocError>
+        ensures pending { IfOk result (λ replies. replies.pending ≡ nothing_for key number) }
+        ensures writing { IfOk result (λ replies. replies.writing ≡ false) }
     {
-        Replies {
-            pending: Backlog::new(alloc, key, number),
-            permit: Some(Permit { seal: () }),
-        }
+        let pending = Backlog::new(alloc, key, number)?;
+        let spare = Backlog::new(alloc, key, number)?;
+        let gathered = Vec::with_capacity(alloc, REPLY_BATCH_BYTES)?;
+        Ok(Replies {
+            pending,
+            waiting: 0,
+            idle: Some((Permit { gathered }, spare)),
+        })
     }
 
-    /// How many bytes wait.
+    /// How many bytes wait, up to the greatest number.
     pub fn waiting(&self) -> usize
-        ensures { result ≡ length self.now.pending.bytes }
+        ensures { result ≡ min (length self.now.pending.bytes) (2 ^ 64 - 1) }
     {
-        self.pending.len()
+        self.waiting
+    }
+
+    /// How many replies wait.
+    pub fn count(&self) -> usize
+        ensures { result ≡ self.now.pending.count }
+    {
+        self.pending.count()
     }
 
     /// Whether a thread writes.
     pub fn is_writing(&self) -> bool
         ensures { result ≡ self.now.writing }
     {
-        self.permit.is_none()
+        self.idle.is_none()
     }
 
-    /// Whether these are for the connection.
-    pub fn are_for(&self, replies: &ReplyBytes<L>) -> bool
-        ensures { IsTrue result ↔ AreForOne replies.now self.now.pending }
-    {
-        self.pending.is_for(replies)
-    }
-
-    /// Puts replies behind those that wait: all of them, which are used up for it; or none, where they are for another
-    /// connection, or memory is refused, which is never so while the buffer has room for them.
-    pub fn put(&mut self, replies: &mut ReplyBytes<L>) -> Put
-        ensures done { result ≡ puts.Done → AreForOne replies.old self.old.pending
-            × (self.new.pending ≡ with_more replies.old self.new.pending.buffer_capacity self.old.pending) }
-        ensures used { result ≡ puts.Done → replies.new ≡ none_of replies.old }
-        ensures another { result ≡ puts.Another → (AreForOne replies.old self.old.pending → ⊥)
+    /// Puts a reply behind those that wait, or lets it go where it is for another connection. It takes no memory.
+    pub fn put(&mut self, reply: ReplyBytes<L>) -> Put
+        requires { self.old.pending.count < CREDITS }
+        ensures done { result ≡ puts.Done → AreForOne reply self.old.pending
+            × (self.new.pending ≡ with_more reply self.old.pending) }
+        ensures another { result ≡ puts.Another → (AreForOne reply self.old.pending → ⊥)
             × (self.new.pending ≡ self.old.pending) }
-        ensures refused { result ≡ puts.Refused
-            → (self.new.pending ≡ record self.old.pending { buffer_capacity = self.new.pending.buffer_capacity })
-            × (self.old.pending.buffer_capacity < length self.old.pending.bytes + length replies.old.bytes) }
         ensures writing { self.new.writing ≡ self.old.writing }
     {
-        self.pending.put(replies)
-    }
-
-    /// Makes the calling thread the one that writes, where nothing waits and no other thread writes: what it
-    /// writes next comes behind all that was put.
-    pub fn begin(&mut self) -> Option<Permit>
-        ensures begun { IfSome result (λ _. (self.old.pending.bytes ≡ []) × (self.old.writing ≡ false)
-            × (self.new.writing ≡ true)) }
-        ensures none { IfNone result ((self.old.pending.bytes ≡ [] → self.old.writing ≡ true)
-            × (self.new.writing ≡ self.old.writing)) }
-        ensures pending { self.new.pending ≡ self.old.pending }
-    {
-        if self.pending.len() != 0 {
-            return None;
+        let bytes = reply.len();
+        let put = self.pending.put(reply);
+        if put == Put::Done {
+            self.waiting = self.waiting.saturating_add(bytes);
         }
-        self.permit.take()
+        put
     }
 
-    /// Makes the calling thread the one that writes, where no other does, and hands it all that waits, for a buffer that is
-    /// used again. None where another writes, or nothing waits.
-    pub fn start(&mut self, used: Backlog<L>) -> Option<(Permit, Backlog<L>)>
+    /// Makes the calling thread the one that writes, where no other does, and hands it all that waits. None where another
+    /// writes, or nothing waits.
+    pub fn start(&mut self) -> Option<(Permit, Backlog<L>)>
         ensures taken { IfSome result (λ taken. (self.old.writing ≡ false) × (taken.1 ≡ self.old.pending)
-            × (taken.1.bytes ≢ [])
-            × (self.new.pending ≡ nothing_for self.old.pending.key self.old.pending.number self.new.pending.buffer_capacity)
+            × (taken.1.count ≢ 0)
+            × (self.new.pending ≡ nothing_for self.old.pending.key self.old.pending.number)
             × (self.new.writing ≡ true)) }
-        ensures nothing { IfNone result ((self.old.writing ≡ false → self.old.pending.bytes ≡ [])
+        ensures nothing { IfNone result ((self.old.writing ≡ false → self.old.pending.count ≡ 0)
             × (self.new ≡ self.old)) }
     {
-        let permit = self.permit.take()?;
-        self.take(permit, used)
+        if self.pending.count() == 0 {
+            return None;
+        }
+        let (permit, spare) = self.idle.take()?;
+        self.waiting = 0;
+        Some((permit, mem::replace(&mut self.pending, spare)))
     }
 
-    /// Hands the thread that writes all that waits, when its last write took all bytes or failed, for a buffer that is used
+    /// Hands the thread that writes all that waits, when its last write took all bytes or failed, for places that are used
     /// again. Where nothing waits, no thread writes any more.
     pub fn go_on(
         &mut self,
         wrote: Result<Written, Unwritten>,
         used: Backlog<L>,
     ) -> Option<(Permit, Backlog<L>)>
-        ensures taken { IfSome result (λ taken. (taken.1 ≡ self.old.pending) × (taken.1.bytes ≢ [])
-            × (self.new.pending ≡ nothing_for self.old.pending.key self.old.pending.number self.new.pending.buffer_capacity)
+        ensures taken { IfSome result (λ taken. (taken.1 ≡ self.old.pending) × (taken.1.count ≢ 0)
+            × (self.new.pending ≡ nothing_for self.old.pending.key self.old.pending.number)
             × (self.new.writing ≡ true)) }
-        ensures nothing { IfNone result ((self.old.pending.bytes ≡ []) × (self.new.pending ≡ self.old.pending)
+        ensures nothing { IfNone result ((self.old.pending.count ≡ 0) × (self.new.pending ≡ self.old.pending)
             × (self.new.writing ≡ false)) }
     {
-        match wrote {
-            Ok(Written { permit }) => self.take(permit, used),
-            Err(Unwritten { permit }) => self.take(permit, used),
-        }
-    }
-
-    // Hands the thread of this permit all that waits, or takes its permit back.
-    fn take(&mut self, permit: Permit, used: Backlog<L>) -> Option<(Permit, Backlog<L>)>
-        ensures taken { IfSome result (λ taken. (taken.1 ≡ self.old.pending) × (taken.1.bytes ≢ [])
-            × (self.new.pending ≡ nothing_for self.old.pending.key self.old.pending.number self.new.pending.buffer_capacity)
-            × (self.new.writing ≡ true)) }
-        ensures nothing { IfNone result ((self.old.pending.bytes ≡ []) × (self.new.pending ≡ self.old.pending)
-            × (self.new.writing ≡ false)) }
-    {
-        if self.pending.len() == 0 {
-            self.permit = Some(permit);
+        let permit = match wrote {
+            Ok(Written { permit }) => permit,
+            Err(Unwritten { permit }) => permit,
+        };
+        let (key, number) = self.pending.goes_to();
+        let spare = used.emptied(key, number);
+        if self.pending.count() == 0 {
+            self.idle = Some((permit, spare));
             return None;
         }
-        let (key, number) = self.pending.goes_to();
-        let empty = used.emptied(key, number);
-        self.permit = None;
-        Some((permit, mem::replace(&mut self.pending, empty)))
+        self.idle = None;
+        self.waiting = 0;
+        Some((permit, mem::replace(&mut self.pending, spare)))
     }
 
     /// Lets go all that waits.
     pub fn forget(&mut self)
-        ensures pending { self.new.pending ≡ nothing_for self.old.pending.key self.old.pending.number self.new.pending.buffer_capacity }
+        ensures pending { self.new.pending ≡ nothing_for self.old.pending.key self.old.pending.number }
         ensures writing { self.new.writing ≡ self.old.writing }
     {
+        self.waiting = 0;
         self.pending.empty_out();
     }
 }

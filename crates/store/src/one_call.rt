@@ -96,7 +96,8 @@ fn answer<D: CrashDisk>(
     a_stop_leaves_a_beginning();
     'steps: loop {
         go_on(alloc, store, worker);
-        if let Some((answered, room)) = worker.take_answer() {
+        if let Some(given) = worker.take_answer() {
+            let (answered, room) = given;
             return (answered.verdict, room);
         }
     }

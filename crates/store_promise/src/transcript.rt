@@ -84,9 +84,9 @@ impl Run {
     /// Notes that memory was refused to the next event, before it was taken.
     pub fn refuse(&mut self, error: AllocError)
         ensures boot { self.new.boot ≡ self.old.boot }
-        ensures history { self.new.history ≡ self.old.history }
-        ensures answers { self.new.answers ≡ self.old.answers }
-        ensures steps { self.new.steps ≡ self.old.steps }
+        ensures history { self.new.history.items ≡ self.old.history.items }
+        ensures answers { self.new.answers.items ≡ self.old.answers.items }
+        ensures steps { self.new.steps.items ≡ self.old.steps.items }
         ensures refused { refusals self.new ≡ refusals self.old + 1 }
     {
         self.refused = self.refused.and(&error, &());

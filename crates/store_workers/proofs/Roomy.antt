@@ -33,12 +33,19 @@ use Rattle.store_promise.specs.declared.lock_requests.LockRequest.{LockRequest}
 use Rattle.store_promise.specs.declared.lock_requests.LockRequest.TheVariants as lock_request
 use Rattle.store_workers.proofs.WorkCases.{Cases, by_cases}
 use Rattle.store_workers.specs.Knowing.{Knowing}
+use Rattle.nfs_types.specs.declared.ctx.Ctx.{Ctx}
+use Rattle.store_workers.specs.RunReports.{reported}
+use Rattle.disk.specs.Device.{Content}
+use Rattle.store_workers.specs.Worker.{with_call}
+use Rattle.store_workers.specs.WorkerReads.{with_read}
 use Rattle.store_workers.specs.Room.{HasGrown, HasLeastRoom, HasRoom, HasRoomFor, HasRoomForAnswer, HasRoomForKept}
-use Rattle.store_workers.specs.Room.{HasRoomIn, IsNoLess, is_answer, reply_for}
+use Rattle.store_workers.specs.Room.{HasRoomIn, IsNoLess, is_answer, reply_for, rooms_after}
 use Rattle.store_workers.specs.Traces.{committed_as, committed_by}
 use Rattle.store_workers.specs.WorkerAnswers.{after_commit, answered_or_waiting, committed, committing_of, phase_claimed}
 use Rattle.store_workers.specs.WorkerAnswers.{phase_off, phase_wanted, with_answer, with_entry}
-use Rattle.store_workers.specs.WorkerSteps.{GoesOn, HasSentBroken, HasSentReply, IsReplySent, WorkerAndCore, given_step, phase_given}
+use Rattle.store_workers.specs.WorkerSteps.{GoesOn, HasClaimed, HasLacked, HasWanted, IsReplySent, WorkerAndCore, given_step, with_snap}
+use Rattle.store_workers.specs.WorkerSteps.{phase_given}
+use Rattle.txn.specs.Fetch.{Fetch}
 use Rattle.store_workers.specs.declared.workers.parts.Job.{Job}
 use Rattle.store_workers.specs.declared.workers.parts.Phase.{Phase}
 use Rattle.store_workers.specs.declared.workers.parts.Phase.TheVariants.{Idle, Called, Planning}
@@ -314,16 +321,74 @@ idle_of (Some made) (Refused why) is = absurd (true≢false (sym is))
 idle_of (Some made) Again is = absurd (true≢false (sym is))
 idle_of (Some made) (Waiting place) is = absurd (true≢false (sym is))
 
-pub ready_then : (made : Option Step) (state : State) (grown ready : Option ℕ) → IsRoomy made state grown ready
-    → is_answer made state.phase ≡ true → HasRoom state (record { call = None; ready = grown })
-ready_then made state grown ready roomy is = record {
+pub room_then : (made : Option Step) (state : State) (grown : Option ℕ) (rooms : Rooms) (answers : Bool)
+    → is_answer made state.phase ≡ answers → IsRoomy made state grown rooms.ready
+    → HasRoom state (rooms_after answers grown rooms)
+room_then made state grown rooms true is roomy = record {
   call = subst (λ (p : Phase). HasRoomIn p state.work None) (sym (idle_of made state.phase is)) tt;
   answer = roomy.answered is;
 }
+room_then made state grown rooms false is roomy = record { call = roomy.call; answer = roomy.other is }
 
-pub kept_then : (made : Option Step) (state : State) (grown ready : Option ℕ) → IsRoomy made state grown ready
-    → is_answer made state.phase ≡ false → HasRoom state (record { call = grown; ready = ready })
-kept_then made state grown ready roomy is = record { call = roomy.call; answer = roomy.other is }
+-- a worker that plans has memory for its call
+pub least_of : (state : State) (rooms : Rooms) → HasRoom state rooms → state.phase ≡ Planning → HasLeastRoom rooms.call
+least_of state rooms has is = subst (λ (p : Phase). HasRoomIn p state.work rooms.call) is has.call
+
+-- ---- what happens between the steps
+
+pub room_at_rest : (state : State) → state.phase ≡ Idle → state.work.answer ≡ None
+    → HasRoom state (record { call = None; ready = None })
+room_at_rest state idle none = record {
+  call = subst (λ (p : Phase). HasRoomIn p state.work None) (sym idle) tt;
+  answer = subst (λ answer. IfSome answer (λ one. HasRoomFor None (reply_for one.verdict))) (sym none) tt;
+}
+
+pub room_handed : (ctx : Ctx) (call : Call) (state : State) (rooms : Rooms) (room : ℕ) → HasRoom state rooms
+    → SHORT_REPLY_BYTES ≤ room → HasRoom (with_call ctx call state) (record rooms { call = Some room })
+room_handed ctx call state rooms room has enough = record { call = enough; answer = has.answer }
+
+pub room_read : (ok : Bool) (io : Fetch) (content : Content) (state : State) (rooms : Rooms) → HasRoom state rooms
+    → state.phase ≡ Reading → HasRoom (with_read ok io content state) rooms
+room_read ok io content state rooms has is = record {
+  call = subst (λ (p : Phase). HasRoomIn p state.work rooms.call) is has.call;
+  answer = has.answer;
+}
+
+pub room_again : (state : State) (rooms : Rooms) (knowing : Knowing) → HasRoom state rooms → state.phase ≡ Planning
+    → HasRoom (record state { phase = Again; known = knowing }) rooms
+room_again state rooms knowing has is = record {
+  call = subst (λ (p : Phase). HasRoomIn p state.work rooms.call) is has.call;
+  answer = has.answer;
+}
+
+pub room_planned : (state new : State) (rooms : Rooms) → HasRoom state rooms → new ≡ with_snap new state
+    → HasRoom new rooms
+room_planned state new rooms has is = subst (λ (s : State). HasRoom s rooms) (sym is)
+    (record { call = in_phase state.phase has.call; answer = has.answer })
+  where
+    in_phase : (phase : Phase) → HasRoomIn phase state.work rooms.call → HasRoomIn phase (with_snap new state).work rooms.call
+    in_phase Idle it = it
+    in_phase Called it = it
+    in_phase Planning it = it
+    in_phase Reading it = it
+    in_phase (Read ok) it = it
+    in_phase (Refused why) it = it
+    in_phase Again it = it
+    in_phase (Waiting place) it = it
+
+pub room_reported : (state : State) (rooms : Rooms) → HasRoom state rooms
+    → HasRoom (reported state) (record rooms { ready = None })
+room_reported state rooms has = record { call = in_phase state.phase has.call; answer = tt }
+  where
+    in_phase : (phase : Phase) → HasRoomIn phase state.work rooms.call → HasRoomIn phase (reported state).work rooms.call
+    in_phase Idle it = it
+    in_phase Called it = it
+    in_phase Planning it = it
+    in_phase Reading it = it
+    in_phase (Read ok) it = it
+    in_phase (Refused why) it = it
+    in_phase Again it = it
+    in_phase (Waiting place) it = it
 
 -- ---- what one step grows
 
@@ -363,3 +428,52 @@ pub grown_with : (found : Option Job) (reply : Reply) (added : List BlockNo) (an
 grown_with None reply added answer old new room grown some is more fits = absurd some
 grown_with (Some job) reply added answer old new room grown some is more fits =
     grown_by job reply added answer old new room grown is more fits
+
+-- ---- steps that commit nothing
+
+module _ (made : Step) (new state : State) (room : Option ℕ) where
+  as_made : (other : Step) → made ≡ other → committed_by (Some other) state ≡ None → HasGrown (Some made) state room room
+  as_made other is none =
+      unchanged (Some made) state room (subst (λ (s : Step). committed_by (Some s) state ≡ None) (sym is) none)
+
+pub wanted_grows : (tx : ℕ) (addr : Addr) (mode : Mode) (old new : WorkerAndCore) (made : Step) (room : Option ℕ)
+    → HasWanted tx addr mode old made new → HasGrown (Some made) new.worker room room
+wanted_grows tx addr mode old new made room has = as_made made new.worker new.worker room _ has.made_is refl
+
+pub claimed_grows : (tx : ℕ) (block : BlockNo) (old new : WorkerAndCore) (made : Step) (room : Option ℕ)
+    → HasClaimed tx block old made new → HasGrown (Some made) new.worker room room
+claimed_grows tx block old new made room has = as_made made new.worker new.worker room _ has.made_is refl
+
+pub lacked_grows : (tx : ℕ) (old new : WorkerAndCore) (made : Step) (room : Option ℕ)
+    → HasLacked tx old made new → HasGrown (Some made) new.worker room room
+lacked_grows tx old new made room has = as_made made new.worker new.worker room _ has.made_is refl
+
+module _ (old new : WorkerAndCore) where
+  abbrev CommitsNone : Phase → Option Step → Type 0
+  CommitsNone phase made = (phase ≡ Planning → ⊥) → committed_by made new.worker ≡ None
+
+  given_none : (ok : Bool) (io : Fetch) → committed_by (Some (given_step ok io)) new.worker ≡ None
+  given_none true io = refl
+  given_none false io = refl
+
+  none_cases : Cases old new CommitsNone
+  none_cases = record {
+    idle = λ is not. refl;
+    reading = λ is not. refl;
+    begun = λ job number job_is served has not. refl;
+    not_begun = λ job why job_is served none core worker not. refl;
+    replied = λ job job_is served core worker not. refl;
+    wanted = λ tx addr mode made tx_is next has not. absurd (not refl);
+    claimed = λ tx block made tx_is next has not. absurd (not refl);
+    committed = λ job tx done made tx_is next left job_is has not. absurd (not refl);
+    lacked = λ tx made tx_is left has not. absurd (not refl);
+    given = λ ok io made io_is has not. given_none ok io;
+    refused = λ why job tx made job_is tx_is has not. refl;
+    left = λ tx made tx_is has not. refl;
+    waited = λ place made has not. refl;
+  }
+
+  pub grows_by : (phase : Phase) (made : Option Step) (room : Option ℕ) → (phase ≡ Planning → ⊥) → GoesOn phase old made new
+      → HasGrown made new.worker room room
+  grows_by phase made room not goes =
+      unchanged made new.worker room (by_cases old new CommitsNone none_cases phase made goes not)

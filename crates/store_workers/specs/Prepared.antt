@@ -17,6 +17,8 @@ use Rattle.store_workers.specs.declared.workers.parts.Phase.TheVariants.{Idle, C
 use Rattle.store_workers.specs.declared.workers.parts.Phase.TheVariants.{Reading, Read}
 use Rattle.store_workers.specs.declared.workers.parts.Phase.TheVariants.{Refused, Again, Waiting}
 use Rattle.store_workers.specs.declared.workers.parts.State.{State}
+use Rattle.store_workers.specs.declared.workers.rooms.Rooms.{Rooms}
+use Rattle.store_workers.specs.Room.{HasRoom}
 use Rattle.store_workers.specs.declared.workers.prepared.TheConstants.{LONG_PLAN_OBJECTS}
 
 -- it has room for what is read or claimed next, and to note it
@@ -39,6 +41,11 @@ pub record IsPrepared (state : State) (next : Plan) : Type 0 where
   pub is_next : IsNext state next
   pub made : IfSome state.work.job (λ job. IsPlanOf job.ctx job.call next)
   pub has_space : HasReservedFor next state
+
+-- the plan that was made for a worker, if one was, is so, and there is memory for its answer
+pub record IsReady (state : State) (next : Option Plan) (rooms : Rooms) : Type 0 where
+  pub prepared : IfSome next (λ plan. IsPrepared state plan)
+  pub room : HasRoom state rooms
 
 -- the next step is one of a plan
 abbrev pub is_planning : Phase → List LockRequest → Bool

@@ -70,6 +70,11 @@ pub record HasGrown (made : Option Step) (state : State) (old new : Option ℕ) 
   pub more : IsNoLess old new
   pub fits : IfSome (committed_by made state) (λ entry. HasRoomFor new (reply_for (verdicts.Reply entry.reply)))
 
+-- where a step has answered the call, the memory of that is the answer's
+abbrev pub rooms_after : Bool → Option ℕ → Rooms → Rooms
+rooms_after true room rooms = record { call = None; ready = room }
+rooms_after false room rooms = record { call = room; ready = rooms.ready }
+
 -- a step that leaves a worker in this phase has answered its call
 abbrev pub is_answer : Option Step → Phase → Bool
 is_answer (Some made) Idle = true

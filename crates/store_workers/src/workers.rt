@@ -15,7 +15,6 @@ mod trace;
 
 ghost use Rattle.std.specs.Prelude.{◌≡◌, true, is_some};
 ghost use Rattle.store_workers.specs.Phases.{has_fetch, has_transaction, is_ready};
-ghost use Rattle.store_workers.specs.Room.{HasRoom};
 ghost use Rattle.store_workers.specs.Stages.{HasSoundJob};
 
 use asked::Asked;
@@ -26,12 +25,11 @@ use nfs_types::{Call, Credential, Ctx, Moment};
 use parts::{Begun, Job, Phase, State, Work};
 use prepared::Prepared;
 use procs::{CommitWitness, Done};
-use rooms::{Rooms, is_answer};
 pub use run_reports::{
     a_run_traces_its_workers_steps, a_worker_tells_its_call, a_worker_tells_its_read,
     a_worker_tells_its_steps,
 };
-use session_wire::{ReplyRoom, short_replies_fit, what_fits_fits_into_more};
+use session_wire::ReplyRoom;
 use std::alloc::Global;
 use store_promise::{CallAnswer, Entry, Step};
 use trace::Trace;
@@ -41,12 +39,10 @@ use txn::Core;
 /// keeps that it has what it needs to go on, that its call can be spelled, and that there is memory for its answer.
 pub struct Worker {
     state: Prepared,
-    rooms: Rooms,
     pub ghost transaction: { is_some state.begun.tx ≡ has_transaction state.phase },
     pub ghost fetch: { is_some state.begun.io ≡ has_fetch state.phase },
     pub ghost ready: { is_ready state.phase state.work ≡ true },
     pub ghost asked: { ∥ HasSoundJob state ∥₁ },
-    pub ghost room: { HasRoom state rooms },
 }
 
 impl Worker {
@@ -102,7 +98,6 @@ impl Worker {
                 asked: Asked::new(alloc_cursor),
                 known: Known::new(alloc),
             }),
-            rooms: Rooms::none(),
         }
     }
 
@@ -158,10 +153,7 @@ impl Worker {
             boot: 0,
             transaction: 0,
         };
-        room.is_enough();
-        self.rooms.take_call(room);
-        self.state.plan = None;
-        self.state.state.take_call(ctx, call);
+        self.state.take_call(ctx, call, room);
         true
     }
 
@@ -182,8 +174,7 @@ impl Worker {
         if self.state.state.phase != Phase::Reading {
             return None;
         }
-        self.state.plan = None;
-        Some(self.state.state.read(disk))
+        Some(self.state.read(disk))
     }
 
     /// Whether the next step is one of a plan that may take long: of a listing, or of a call that has read many objects.
@@ -268,13 +259,7 @@ impl Worker {
         ensures home { PreservesHomeOf (worker_and_core self.old.state core.old) (worker_and_core self.new.state core.new) }
         ensures stays { PreservesReadsOf (worker_and_core self.old.state core.old) (worker_and_core self.new.state core.new) }
     {
-        short_replies_fit();
-        what_fits_fits_into_more();
-        let made = self.state.step(alloc, core, trace, &mut self.rooms.call);
-        if is_answer(&made, self.state.state.phase) {
-            self.rooms.lie_ready();
-        }
-        made
+        self.state.step(alloc, core, trace)
     }
 
     /// Has a call that plans begin again with the next step, as one that knows nothing.
@@ -285,9 +270,7 @@ impl Worker {
         ensures rest { (self.old.state.phase ≡ Planning → ⊥) → self.new ≡ self.old }
     {
         if self.state.state.phase == Phase::Planning {
-            self.state.plan = None;
-            self.state.state.known.forget();
-            self.state.state.phase = Phase::Again;
+            self.state.begin_again();
         }
     }
 
@@ -299,13 +282,7 @@ impl Worker {
         ensures rest { self.new.state ≡ reported self.old.state }
         ensures fits { (core : CoreState) → Fits self.old core → Fits self.new core }
     {
-        self.state.plan = None;
-        self.state.state.work.entry = LastEntry::none();
-        let answer = self.state.state.work.answer.take()?;
-        match self.rooms.ready.take() {
-            Some(room) => Some((answer, room)),
-            None => unreachable!(),
-        }
+        self.state.take_answer()
     }
 
     /// Ends the worker, and gives back what it has begun: its transaction, and the read that is due or was
@@ -318,9 +295,12 @@ impl Worker {
         ensures idle { self.state.phase ≡ Idle → core.new ≡ core.old }
         ensures gives_back { GivesAllBack self.state.begun core.old core.new }
     {
-        let Worker { state, rooms } = self;
-        drop(rooms);
-        let Prepared { state, plan: _ } = state;
+        let Worker { state } = self;
+        let Prepared {
+            state,
+            plan: _,
+            rooms: _,
+        } = state;
         let State {
             phase: _,
             work,

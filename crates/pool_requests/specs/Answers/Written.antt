@@ -1,8 +1,9 @@
 -- What is written to a connection.
-use Rattle.std.specs.Prelude.{◌≡◌, ℕ, true, List, [], ◌++◌, flat_map, All}
+use Rattle.std.specs.Prelude.{◌≡◌, ◌≤◌, ◌+◌, ℕ, true, List, [], ◌++◌, flat_map, All}
 use Rattle.rpc.specs.Records.{fragment}
 use Rattle.session_wire.specs.Replies.{reply_bytes}
 use Rattle.pool_requests.specs.Answers.Evident.{Answered}
+use Rattle.pool_requests.specs.declared.answers.backlog.TheConstants.{CREDITS}
 
 -- an answer as a record of one fragment, behind its mark (RFC 5531, section 11)
 abbrev pub spelled : Answered → List ℕ
@@ -24,29 +25,36 @@ pub record Written : Type 0 where
   pub bytes : List ℕ
   pub answers : List Answered
 
--- no answer, for the same connection
-abbrev pub none_of : Written → Written
-none_of replies = record replies { bytes = []; answers = [] }
-
--- the same as it waits to be written, in a buffer with room for so many bytes
+-- the same as they wait to be written, in so many replies
 pub record Queued : Type 0 where
   pub key : ℕ
   pub number : ℕ
   pub bytes : List ℕ
   pub answers : List Answered
-  pub buffer_capacity : ℕ
+  pub count : ℕ
 
 -- nothing waits
-abbrev pub nothing_for : ℕ → ℕ → ℕ → Queued
-nothing_for key number buffer_capacity = record { key = key; number = number; bytes = []; answers = []; buffer_capacity = buffer_capacity }
+abbrev pub nothing_for : ℕ → ℕ → Queued
+nothing_for key number = record { key = key; number = number; bytes = []; answers = []; count = 0 }
 
--- more answers behind the others
-abbrev pub with_more : Written → ℕ → Queued → Queued
-with_more more buffer_capacity queue = record queue {
+-- one more reply behind the others
+abbrev pub with_more : Written → Queued → Queued
+with_more more queue = record queue {
   bytes = queue.bytes ++ more.bytes;
   answers = queue.answers ++ more.answers;
-  buffer_capacity = buffer_capacity;
+  count = queue.count + 1;
 }
+
+-- a reply has what answers spell, and is to this connection
+pub record IsToOne (key number : ℕ) (one : Written) : Type 0 where
+  pub key_is : one.key ≡ key
+  pub number_is : one.number ≡ number
+  pub written : IsWritten one.key one.number one.bytes one.answers
+
+-- so is each that waits, and there are places for as many as there are credits
+pub record IsBacklog (key number : ℕ) (replies : List Written) (places : ℕ) : Type 0 where
+  pub own : All (IsToOne key number) replies
+  pub places_are : CREDITS ≤ places
 
 -- they are for the same connection
 abbrev pub AreForOne : Written → Queued → Type 0

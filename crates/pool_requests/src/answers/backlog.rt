@@ -1,82 +1,86 @@
-//! The bytes of answers that wait to be written to one connection.
+//! The answers that wait to be written to one connection.
 
-use crate::answers::{Put, ReplyBytes};
-use http_server::Log;
-use std::alloc::Global;
+use crate::answers::ReplyBytes;
+use std::alloc::{AllocError, Global};
+use std::collections::VecDeque;
 use std::marker::Model;
 use std::sync::ledger::Ledger;
 
-/// The bytes of answers to the connection of this key and number, as they were left one behind another. Its type keeps
-/// that it has the bytes of answers alone, each of them an `Answer` to this connection, by what was committed to one core.
+/// How many replies of a connection may wait, and calls be under way, together.
+pub const CREDITS: usize = 64;
+
+/// What came of putting a reply.
+#[derive(Clone, Copy, Debug, PartialEq, Eq)]
+pub enum Put {
+    Done,
+    /// It is for another connection.
+    Another,
+}
+
+/// The replies to the connection of this key and number that wait, one behind another. Its type keeps that it has the bytes
+/// of answers alone, each of them an `Answer` to this connection, by what was committed to one core; and that it takes no
+/// memory for as many as there are credits.
 #[derive(Drop)]
 pub struct Backlog<L: Ledger> {
     key: usize,
     number: u64,
-    bytes: Vec<u8>,
-    pieces: Log<ReplyBytes<L>, ()>,
+    replies: VecDeque<ReplyBytes<L>>,
 }
 
 impl<L: Ledger> Model for Backlog<L> {
-    ghost use Rattle.std.specs.Prelude.{flat_map};
-    ghost use Rattle.std.specs.Vec.{vec_capacity};
-    ghost use Rattle.pool_requests.specs.Answers.Written.{IsWritten, Queued};
+    ghost use Rattle.std.specs.Prelude.{flat_map, length};
+    ghost use Rattle.pool_requests.specs.Answers.Written.{IsBacklog, Queued};
 
     ghost Value = { Queued };
 
     ghost view = { λ b. record {
       key = b.key;
       number = b.number;
-      bytes = b.bytes.items;
-      answers = flat_map (λ one. one.0.answers) b.pieces.items;
-      buffer_capacity = vec_capacity b.bytes;
+      bytes = flat_map (λ one. one.bytes) b.replies.items;
+      answers = flat_map (λ one. one.answers) b.replies.items;
+      count = length b.replies.items;
     } };
 
-    ghost invariant = { λ b. IsWritten b.key b.number b.bytes.items (flat_map (λ one. one.0.answers) b.pieces.items) };
+    ghost use Rattle.std.specs.VecDeque.{deque_capacity};
+
+    ghost invariant = { λ b. IsBacklog b.key b.number b.replies.items (deque_capacity b.replies) };
 }
 
 impl<L: Ledger> Backlog<L> {
-    ghost use Rattle.std.specs.Prelude.{◌≡◌, ◌+◌, ◌<◌, ◌↔◌, ◌⊎◌, IsTrue, length};
-    ghost use Rattle.pool_requests.specs.Answers.Written.{AreForOne, IsWritten, none_of, nothing_for, with_more};
-    ghost use Rattle.pool_requests.specs.declared.answers.reply_bytes.Put.TheVariants as puts;
+    ghost use Rattle.std.specs.Prelude.{◌≡◌, ◌+◌, ◌<◌, ◌++◌, IfOk, IfNone, IfSome};
+    ghost use Rattle.pool_requests.specs.Answers.Written.{AreForOne, nothing_for, with_more};
+    ghost use Rattle.pool_requests.specs.declared.answers.backlog.Put.TheVariants as puts;
+    ghost use Rattle.pool_requests.specs.declared.answers.backlog.TheConstants.{CREDITS};
 
-    /// Nothing, for the connection of this key and number.
-    pub fn new(alloc: Global, key: usize, number: u64) -> Backlog<L>
-        ensures { result ≡ nothing_for key number result.buffer_capacity }
+    /// Nothing, for the connection of this key and number, with a place for as many replies as there are credits.
+    pub fn new(alloc: Global, key: usize, number: u64) -> Result<Backlog<L>, AllocError>
+        ensures { IfOk result (λ b. b ≡ nothing_for key number) }
     {
-        Backlog {
+        Ok(Backlog {
             key,
             number,
-            bytes: Vec::new(alloc),
-            pieces: Log::new(),
-        }
+            replies: VecDeque::with_capacity(alloc, CREDITS)?,
+        })
     }
 
-    /// Nothing, in a buffer that is used again, for the connection of this key and number.
+    /// Nothing, in the places of this, for the connection of this key and number.
     pub fn emptied(self, key: usize, number: u64) -> Backlog<L>
-        ensures { result ≡ nothing_for key number result.buffer_capacity }
+        ensures { result ≡ nothing_for key number }
     {
-        let mut bytes = self.bytes;
-        bytes.clear();
+        let mut replies = self.replies;
+        replies.clear();
         Backlog {
             key,
             number,
-            bytes,
-            pieces: Log::new(),
+            replies,
         }
     }
 
-    /// How many bytes there are.
-    pub fn len(&self) -> usize
-        ensures { result ≡ length self.now.bytes }
+    /// How many replies there are.
+    pub fn count(&self) -> usize
+        ensures { result ≡ self.now.count }
     {
-        self.bytes.len()
-    }
-
-    /// The bytes.
-    pub fn as_slice(&self) -> &[u8]
-        ensures { result.now ≡ self.now.bytes }
-    {
-        self.bytes.as_slice()
+        self.replies.len()
     }
 
     /// The key and the number of its connection.
@@ -86,50 +90,35 @@ impl<L: Ledger> Backlog<L> {
         (self.key, self.number)
     }
 
-    /// Whether these are for its connection.
-    pub fn is_for(&self, replies: &ReplyBytes<L>) -> bool
-        ensures { IsTrue result ↔ AreForOne replies.now self.now }
+    /// Puts a further reply to the same connection behind these, or lets it go where it is for another. It takes no memory.
+    pub fn put(&mut self, reply: ReplyBytes<L>) -> Put
+        requires { self.old.count < CREDITS }
+        ensures done { result ≡ puts.Done → AreForOne reply self.old × (self.new ≡ with_more reply self.old) }
+        ensures another { result ≡ puts.Another → (AreForOne reply self.old → ⊥) × (self.new ≡ self.old) }
     {
-        let (key, number) = replies.goes_to();
-        key == self.key && number == self.number
-    }
-
-    /// Puts the bytes of further answers to the same connection behind these: all of them, which are used up for it; or
-    /// none, where they are for another, or memory is refused, which is never so while the buffer has room for them.
-    #[tactic(auto, using(crate::proofs::AnswersLemmas::Puts::one_piece))]
-    pub fn put(&mut self, replies: &mut ReplyBytes<L>) -> Put
-        ensures done { result ≡ puts.Done → AreForOne replies.old self.old
-            × (self.new ≡ with_more replies.old self.new.buffer_capacity self.old) }
-        ensures used { result ≡ puts.Done → replies.new ≡ none_of replies.old }
-        ensures another { result ≡ puts.Another → (AreForOne replies.old self.old → ⊥) × (self.new ≡ self.old) }
-        ensures refused { result ≡ puts.Refused → (self.new ≡ record self.old { buffer_capacity = self.new.buffer_capacity })
-            × (self.old.buffer_capacity < length self.old.bytes + length replies.old.bytes) }
-        ensures is_preserved { (result ≡ puts.Another) ⊎ (result ≡ puts.Refused) → replies.new ≡ replies.old }
-    {
-        if !self.is_for(replies) {
+        let (key, number) = reply.goes_to();
+        if key != self.key || number != self.number {
             return Put::Another;
         }
-        replies.written();
-        if self.bytes.extend_from_slice(replies.as_slice()).is_err() {
-            return Put::Refused;
-        }
-        self.pieces = self.pieces.and(&*replies, &());
-        replies.empty_out();
+        reply.written();
+        self.replies.push_back_reserved(reply);
         Put::Done
+    }
+
+    /// Takes the first reply, if there is one.
+    pub fn take_first(&mut self) -> Option<ReplyBytes<L>>
+        ensures some { IfSome result (λ one. (self.old.bytes ≡ one.bytes ++ self.new.bytes)
+            × (self.old.answers ≡ one.answers ++ self.new.answers) × (self.old.count ≡ self.new.count + 1)) }
+        ensures none { IfNone result ((self.old.count ≡ 0) × (self.new ≡ self.old)) }
+        ensures goes_to { (self.new.key ≡ self.old.key) × (self.new.number ≡ self.old.number) }
+    {
+        self.replies.pop_front()
     }
 
     /// Lets go of all.
     pub fn empty_out(&mut self)
-        ensures { self.new ≡ nothing_for self.old.key self.old.number self.new.buffer_capacity }
+        ensures { self.new ≡ nothing_for self.old.key self.old.number }
     {
-        self.bytes.clear();
-        self.pieces = Log::new();
-    }
-
-    /// They are what answers to this connection spell.
-    pub fn written(&self)
-        ensures { IsWritten self.now.key self.now.number self.now.bytes self.now.answers }
-    {
-        let _ = &self.bytes;
+        self.replies.clear();
     }
 }

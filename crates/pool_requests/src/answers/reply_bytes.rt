@@ -1,9 +1,9 @@
 //! The bytes of answers to one connection.
-ghost use Rattle.std.specs.Prelude.{◌≡◌, ◌++◌, OnErr, OnOk};
+ghost use Rattle.std.specs.Prelude.{◌≡◌};
 
 use crate::answers::Answer;
 use http_server::Log;
-use std::alloc::{AllocError, Global};
+use std::alloc::Global;
 use std::marker::Model;
 use std::sync::ledger::Ledger;
 
@@ -33,32 +33,9 @@ impl<L: Ledger> Model for ReplyBytes<L> {
     ghost invariant = { λ r. IsWritten r.key r.number r.bytes.items (map (λ one. one.0) r.answers.items) };
 }
 
-/// What came of putting an answer.
-#[derive(Clone, Copy, Debug, PartialEq, Eq)]
-pub enum Put {
-    Done,
-    /// It is for another connection.
-    Another,
-    /// Memory was refused.
-    Refused,
-}
-
 impl<L: Ledger> ReplyBytes<L> {
-    ghost use Rattle.std.specs.Prelude.{◌≡◌, ◌++◌, ◌∷◌, ◌⊎◌, [], length};
-    ghost use Rattle.pool_requests.specs.Answers.Written.{IsFor, IsWritten, none_of, spelled};
-    ghost use Rattle.pool_requests.specs.declared.answers.reply_bytes.Put.TheVariants as puts;
-
-    /// Nothing yet.
-    pub fn new(alloc: Global, key: usize, number: u64) -> ReplyBytes<L>
-        ensures { result ≡ record { key = key; number = number; bytes = []; answers = [] } }
-    {
-        ReplyBytes {
-            key,
-            number,
-            bytes: Vec::new(alloc),
-            answers: Log::new(),
-        }
-    }
+    ghost use Rattle.std.specs.Prelude.{◌≡◌, ◌∷◌, [], length};
+    ghost use Rattle.pool_requests.specs.Answers.Written.{IsWritten, spelled};
 
     /// The key and the number of the connection.
     pub fn goes_to(&self) -> (usize, u64)
@@ -101,54 +78,10 @@ impl<L: Ledger> ReplyBytes<L> {
         }
     }
 
-    /// Puts an answer behind the others, where it is for this connection. Else nothing changes. The first is put in the
-    /// memory that it brings.
-    #[tactic(auto, using(crate::proofs::AnswersLemmas::Puts::one_more))]
-    pub fn put(&mut self, alloc: Global, answer: Answer<L>) -> Put
-        ensures done { result ≡ puts.Done → IsFor self.old.key self.old.number answer × (self.new ≡ record self.old {
-          bytes = self.old.bytes ++ spelled answer;
-          answers = self.old.answers ++ answer ∷ [];
-        }) }
-        ensures another { result ≡ puts.Another → (IsFor self.old.key self.old.number answer → ⊥) }
-        ensures is_preserved { (result ≡ puts.Another) ⊎ (result ≡ puts.Refused) → self.new ≡ self.old }
-    {
-        let (key, number) = answer.goes_to();
-        if key != self.key || number != self.number {
-            return Put::Another;
-        }
-        let answers = self.answers.and(&answer, &());
-        let bytes = answer.into_bytes(alloc);
-        if behind(&mut self.bytes, bytes).is_err() {
-            return Put::Refused;
-        }
-        self.answers = answers;
-        Put::Done
-    }
-
-    /// Lets go of all.
-    pub fn empty_out(&mut self)
-        ensures { self.new ≡ none_of self.old }
-    {
-        self.bytes.clear();
-        self.answers = Log::new();
-    }
-
     /// They are what answers to this connection spell.
     pub fn written(&self)
         ensures { IsWritten self.now.key self.now.number self.now.bytes self.now.answers }
     {
         let _ = &self.bytes;
     }
-}
-
-// Puts bytes behind others: where there are none, they are these.
-fn behind(bytes: &mut Vec<u8>, more: Vec<u8>) -> Result<(), AllocError>
-    ensures ok { OnOk result (bytes.new.items ≡ bytes.old.items ++ more.items) }
-    ensures err { OnErr result (bytes.new.items ≡ bytes.old.items) }
-{
-    if bytes.is_empty() {
-        *bytes = more;
-        return Ok(());
-    }
-    bytes.extend_from_slice(more.as_slice())
 }

@@ -1,7 +1,7 @@
 //! The memory for the reply to a worker's call. It comes with the call, and grows to its reply before that is committed.
 ghost use Rattle.std.specs.Prelude.{◌≡◌, ℕ, Some, None, true, OnOk};
 ghost use Rattle.store_promise.specs.declared.answers.Verdict.TheVariants as verdicts;
-ghost use Rattle.store_workers.specs.Room.{HasLeastRoom, HasRoomFor, IsNoLess, is_answer, reply_for};
+ghost use Rattle.store_workers.specs.Room.{HasLeastRoom, HasRoomFor, IsNoLess, is_answer, reply_for, rooms_after};
 
 use super::parts::Phase;
 use procs::Done;
@@ -28,19 +28,16 @@ impl Rooms {
         }
     }
 
-    // That of a call that is handed over.
-    pub(super) fn take_call(&mut self, room: ReplyRoom)
-        ensures { self.new ≡ record self.old { call = Some room } }
+    // A step was made, with this memory of the call: where it has answered the call, that is the answer's.
+    pub(super) fn end_step(&mut self, room: Option<ReplyRoom>, answers: bool)
+        ensures { self.new ≡ rooms_after answers room self.old }
     {
-        drop(self.call.replace(room));
-    }
-
-    // The call was answered: its memory is the answer's.
-    pub(super) fn lie_ready(&mut self)
-        ensures { self.new ≡ record { call = None; ready = self.old.call } }
-    {
-        let room = self.call.take();
-        drop(std::mem::replace(&mut self.ready, room));
+        if answers {
+            self.call = None;
+            self.ready = room;
+        } else {
+            self.call = room;
+        }
     }
 }
 

@@ -24,8 +24,7 @@ impl Worker {
         if self.state.state.phase != Phase::Reading {
             return None;
         }
-        self.state.plan = None;
-        Some(self.state.state.read_from(source))
+        Some(self.state.read_from(source))
     }
 
     /// The place that its committed procedure waits for, if it does: the answer comes once that is settled.
@@ -43,7 +42,7 @@ impl State {
     ghost use Rattle.store_workers.specs.SourceReads.{HasReadFrom};
 
     // Reads the block that is due.
-    fn read_from<S: Source>(&mut self, source: &mut S) -> Step
+    pub(super) fn read_from<S: Source>(&mut self, source: &mut S) -> Step
         requires { is_some self.old.begun.io ≡ true }
         ensures { HasReadFrom (S.calls source.old) self.old result (S.calls source.new) self.new }
     {

@@ -41,9 +41,9 @@ returns-then-has_too_many_uninstalled-clause-answered g c = λ first last entrie
     let fits = c.hand.ensures.fits was.core (c.with_alloc_cursor-worker.ensures.fits was.core was.lawful) in
     let begun = c.a_call_begins.ensures o c.hand.new.self.state sound c.requires.idle state_is
     (goes_with c.hand.new.self was.core fits) opened in
-    let verdict = c.answer-verdict.result in
-    let mid = c.answer-verdict.new.store in
-    let has = c.answer-verdict.ensures.answered o (c.settle.ensures.model preserves) begun in
+    let verdict = c.answer-answered.result.0 in
+    let mid = c.answer-answered.new.store in
+    let has = c.answer-answered.ensures.answered o (c.settle.ensures.model preserves) begun in
     let now = store_of (device mid.disk) c.end.new.core mid.boot in
     let ended = subst (λ core. HasAnswered o verdict (store_of (device mid.disk) core mid.boot))
     (sym (c.end.ensures.idle has.1)) has.0 in
@@ -73,8 +73,8 @@ returns-else-has_too_many_uninstalled-clause-answered g c = λ first last entrie
     let fits = c.hand.ensures.fits was.core (c.with_alloc_cursor-worker.ensures.fits was.core was.lawful) in
     let begun = c.a_call_begins.ensures o c.hand.new.self.state sound c.requires.idle state_is
     (goes_with c.hand.new.self was.core fits) opened in
-    let verdict = c.answer-verdict.result in
-    let mid = c.answer-verdict.new.store in
-    let has = c.answer-verdict.ensures.answered o preserves begun in
+    let verdict = c.answer-answered.result.0 in
+    let mid = c.answer-answered.new.store in
+    let has = c.answer-answered.ensures.answered o preserves begun in
     subst (λ core. HasAnswered o verdict (store_of (device mid.disk) core mid.boot))
     (sym (c.end.ensures.idle has.1)) has.0

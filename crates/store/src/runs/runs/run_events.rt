@@ -1,5 +1,5 @@
 //! The events of a run.
-ghost use Rattle.std.specs.Prelude.{◌≡◌, ◌+◌, ◌^◌, ◌<◌, ◌≤◌, ◌++◌, All, IfOk, IsTrue, [], None, length, vec_len};
+ghost use Rattle.std.specs.Prelude.{◌≡◌, ◌+◌, ◌^◌, ◌<◌, ◌≤◌, ◌++◌, All, IfOk, IsTrue, [], None, length, option_map, vec_len};
 ghost use Rattle.std.specs.Prelude.{IsFalse, Some, false, true, vec_capacity, ℕ};
 ghost use Rattle.layout.specs.Geometry.{IsLawful};
 ghost use Rattle.nfs_spec.specs.Model.Sound.{SoundTime};
@@ -379,15 +379,22 @@ fn tell(one: &mut Worker, number: usize, clock: u64, entry: Option<Entry>, run: 
     ensures worker { one.new.state ≡ reported one.old.state }
     ensures run { TellsWork number clock entry one.old.state.work.answer run.old run.new }
 {
-    let answer = match one.take_answer() {
+    let answer = without_room(one.take_answer());
+    trace_entry(run, number, clock, entry);
+    trace_answer(run, number, clock, answer);
+}
+
+// An answer without the memory for its reply, which a run doesn't spell.
+fn without_room(taken: Option<(CallAnswer, ReplyRoom)>) -> Option<CallAnswer>
+    ensures { result ≡ option_map (λ given. given.0) taken }
+{
+    match taken {
         Some((answer, room)) => {
             drop(room);
             Some(answer)
         }
         None => None,
-    };
-    trace_entry(run, number, clock, entry);
-    trace_answer(run, number, clock, answer);
+    }
 }
 
 // Gives back what workers have begun.

@@ -13,24 +13,24 @@ use Rattle.pool.specs.CallInFlight.{CallInFlight}
 use Rattle.pool.specs.declared.step_result.StepResult.{StepResult}
 use Rattle.pool.proofs.work.Work.step.Goals as goal
 
-pub after-in_flight-requires : goal.after-in_flight-requires
-after-in_flight-requires g c =
-    let e = c.advance-made.ensures in
+pub after-in_flight-requires-clause-gives : goal.after-in_flight-requires-clause-gives
+after-in_flight-requires-clause-gives g c =
+    let e = c.advance-made.ensures.step in
     let old = worker_and_core c.self.inside.worker.state c.args.core.now in
     let new = worker_and_core e.0 c.advance-made.new.core in
     let made = c.advance-made.result.0 in
-    let shown = c.advance-made.result.2 in
+    let shown = c.advance-made.result.3 in
     subst₂ (λ (x : CallInFlight) (a : Option CallAnswer). GivesFor c.advance-made.new.core made x shown a)
     (sym c.replace-in_flight.ensures.value) (sym e.3)
     (next_gives c.self.inside.in_flight shown old new made c.self.invariant e.1 e.4)
 
 pub invariant_of-self : goal.invariant_of-self
 invariant_of-self g c =
-    let e = c.advance-made.ensures in
+    let e = c.advance-made.ensures.step in
     let old = worker_and_core c.self.inside.worker.state c.args.core.now in
     let new = worker_and_core e.0 c.advance-made.new.core in
     let made = c.advance-made.result.0 in
-    let shown = c.advance-made.result.2 in
+    let shown = c.advance-made.result.3 in
     let in_flight_is = c.replace.ensures.after ∙ (c.after-in_flight.ensures
     ∙ ap₂ (λ (x : CallInFlight) (a : Option CallAnswer). in_flight_after made x shown a) c.replace-in_flight.ensures.value e.3) in
     subst₂ (λ (s : State) (x : CallInFlight). IsSeated s x) (sym e.2) (sym in_flight_is)
@@ -38,7 +38,7 @@ invariant_of-self g c =
 
 pub returns-clause-places : goal.returns-clause-places
 returns-clause-places g c =
-    let e = c.advance-made.ensures in
+    let e = c.advance-made.ensures.step in
     let old = worker_and_core c.self.inside.worker.state c.args.core.now in
     let new = worker_and_core e.0 c.advance-made.new.core in
     takes_places old new c.self.inside.worker.state.phase c.advance-made.result.0 e.1
@@ -46,7 +46,7 @@ returns-clause-places g c =
 
 pub returns-clause-calls : goal.returns-clause-calls
 returns-clause-calls g c =
-    let e = c.advance-made.ensures in
+    let e = c.advance-made.ensures.step in
     let old = worker_and_core c.self.inside.worker.state c.args.core.now in
     let new = worker_and_core e.0 c.advance-made.new.core in
     hands_out_none old new c.self.inside.worker.state.phase c.advance-made.result.0 e.1

@@ -21,6 +21,14 @@ returns-then-is_err-clause-goes g c = λ b preserves next at.
     untold b _ c.args.run.now c.reserve_next.new.self
     (same_run_record c.args.run.now c.reserve_next.new.self made.boot made.history made.answers made.steps) at
 
+pub returns-in-Err-clause-goes : goal.returns-in-Err-clause-goes
+returns-in-Err-clause-goes g c = λ b preserves next at.
+    let made = c.reserve_next.ensures in
+    let told = c.refuse.ensures in
+    untold b _ c.args.run.now c.refuse.new.self
+    (same_run_record c.args.run.now c.refuse.new.self (told.boot ∙ made.boot) (told.history ∙ made.history)
+    (told.answers ∙ made.answers) (told.steps ∙ made.steps)) at
+
 pub returns-clause-goes : goal.returns-clause-goes
 returns-clause-goes g c = λ b preserves next at.
     let made = c.reserve_next.ensures in
