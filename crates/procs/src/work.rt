@@ -148,11 +148,11 @@ fn work(
                 what_is_refused_is_in_no_tree();
                 return Err(Suspend::Io);
             }
-            if !is_short(alloc, done.reply()) {
-                a_step_tells_a_short_reply();
-                return Err(Suspend::Io);
+            if is_short(alloc, done.reply()) {
+                return Ok(done);
             }
-            Ok(done)
+            a_step_tells_a_short_reply();
+            Err(Suspend::Io)
         }
         Err(suspend) => Err(suspend),
     }

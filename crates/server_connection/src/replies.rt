@@ -1,5 +1,5 @@
 //! Replies that wait to be written to a connection.
-ghost use Rattle.std.specs.Prelude.{◌≡◌, ◌≢◌, ◌+◌, ◌^◌, ◌<◌, ◌++◌, [], true, false, Ok, IfSome, IfNone, IfOk, OnOk, length, min};
+ghost use Rattle.std.specs.Prelude.{◌≡◌, ◌≢◌, ◌^◌, ◌<◌, ◌++◌, [], List, ℕ, true, false, IfSome, IfNone, IfOk, IsTrue, OnOk, length, min};
 ghost use Rattle.std.specs.Io.KnownBytes.{Appends};
 ghost use Rattle.pool_requests.specs.Answers.Written.{AreForOne, nothing_for, with_more};
 ghost use Rattle.pool_requests.specs.declared.answers.backlog.Put.TheVariants as puts;
@@ -8,7 +8,7 @@ ghost use Rattle.pool_requests.specs.declared.answers.backlog.TheConstants.{CRED
 use base::REPLY_BATCH_BYTES;
 use pool_requests::{Backlog, Put, ReplyBytes};
 use std::alloc::{AllocError, Global};
-use std::io::{self, Write};
+use std::io::Write;
 use std::marker::Model;
 use std::mem;
 use std::sync::ledger::Ledger;
@@ -44,58 +44,72 @@ impl Permit {
         ensures { OnOk result (Appends (W.contents stream.old) (W.contents stream.new) replies.old.bytes) }
     {
         let mut gathered = self.gathered;
-        let wrote = write_each(stream, &mut gathered, replies);
+        let is_well = write_each(stream, &mut gathered, replies);
         gathered.clear();
         let permit = Permit { gathered };
-        match wrote {
-            Ok(()) => Ok(Written { permit }),
-            Err(_) => Err(Unwritten { permit }),
+        if is_well {
+            Ok(Written { permit })
+        } else {
+            Err(Unwritten { permit })
         }
     }
 }
 
-// Writes all replies, the short ones gathered.
+// Writes all replies, the short ones gathered. False where a write failed.
 fn write_each<L: Ledger, W: Write>(
     stream: &mut W,
     gathered: &mut Vec<u8>,
     replies: &mut Backlog<L>,
-) -> io::Result<()>
+) -> bool
     requires { gathered.old.items ≡ [] }
-    ensures { OnOk result (Appends (W.contents stream.old) (W.contents stream.new) replies.old.bytes) }
+    ensures { IsTrue result → Appends (W.contents stream.old) (W.contents stream.new) replies.old.bytes }
 {
-    'each: for _ in 0..replies.count() {
+    'each: for _ in 0..u64::MAX {
         let Some(reply) = replies.take_first() else {
-            break;
+            return write_gathered(stream, gathered);
         };
-        write_behind(stream, gathered, reply.as_slice())?;
+        if !write_behind(stream, gathered, reply.as_slice()) {
+            return false;
+        }
     }
-    write_gathered(stream, gathered)
+    false
 }
 
-// Gathers a short reply behind others, or writes it behind them.
-fn write_behind<W: Write>(
-    stream: &mut W,
-    gathered: &mut Vec<u8>,
-    reply: &[u8],
-) -> io::Result<()> {
+// Gathers a short reply behind others, or writes it behind them. False where a write failed.
+fn write_behind<W: Write>(stream: &mut W, gathered: &mut Vec<u8>, reply: &[u8]) -> bool
+    ensures { IsTrue result → (part : List ℕ) × Appends (W.contents stream.old) (W.contents stream.new) part
+        × (part ++ gathered.new.items ≡ gathered.old.items ++ reply.now) }
+{
     if gathered.len().saturating_add(reply.len()) > REPLY_BATCH_BYTES {
-        write_gathered(stream, gathered)?;
+        return write_gathered(stream, gathered) && gather(stream, gathered, reply);
     }
-    if reply.len() <= REPLY_BATCH_BYTES && gathered.extend_from_slice(reply).is_ok() {
-        return Ok(());
-    }
-    write_gathered(stream, gathered)?;
-    stream.write_all(reply)
+    gather(stream, gathered, reply)
 }
 
-// Writes what was gathered, if anything was.
-fn write_gathered<W: Write>(stream: &mut W, gathered: &mut Vec<u8>) -> io::Result<()> {
-    if gathered.is_empty() {
-        return Ok(());
+// The same where a short reply isn't too much.
+fn gather<W: Write>(stream: &mut W, gathered: &mut Vec<u8>, reply: &[u8]) -> bool
+    ensures { IsTrue result → (part : List ℕ) × Appends (W.contents stream.old) (W.contents stream.new) part
+        × (part ++ gathered.new.items ≡ gathered.old.items ++ reply.now) }
+{
+    if reply.len() <= REPLY_BATCH_BYTES && gathered.extend_from_slice(reply).is_ok() {
+        return true;
     }
-    stream.write_all(gathered.as_slice())?;
+    write_gathered(stream, gathered) && stream.write_all(reply).is_ok()
+}
+
+// Writes what was gathered. False where a write failed.
+fn write_gathered<W: Write>(stream: &mut W, gathered: &mut Vec<u8>) -> bool
+    ensures { IsTrue result → Appends (W.contents stream.old) (W.contents stream.new) gathered.old.items
+        × (gathered.new.items ≡ []) }
+{
+    if gathered.is_empty() {
+        return true;
+    }
+    if stream.write_all(gathered.as_slice()).is_err() {
+        return false;
+    }
     gathered.clear();
-    Ok(())
+    true
 }
 
 /// The replies of a connection that wait to be written, in the order in which they were put; and, where no thread writes,

@@ -47,7 +47,7 @@ impl<L: Ledger> Model for Backlog<L> {
 }
 
 impl<L: Ledger> Backlog<L> {
-    ghost use Rattle.std.specs.Prelude.{◌≡◌, ◌+◌, ◌<◌, ◌++◌, IfOk, IfNone, IfSome};
+    ghost use Rattle.std.specs.Prelude.{◌≡◌, ◌+◌, ◌<◌, ◌++◌, [], IfOk, IfNone, IfSome};
     ghost use Rattle.pool_requests.specs.Answers.Written.{AreForOne, nothing_for, with_more};
     ghost use Rattle.pool_requests.specs.declared.answers.backlog.Put.TheVariants as puts;
     ghost use Rattle.pool_requests.specs.declared.answers.backlog.TheConstants.{CREDITS};
@@ -91,6 +91,7 @@ impl<L: Ledger> Backlog<L> {
     }
 
     /// Puts a further reply to the same connection behind these, or lets it go where it is for another. It takes no memory.
+    #[tactic(auto, using(crate::proofs::AnswersLemmas::Puts::one_more))]
     pub fn put(&mut self, reply: ReplyBytes<L>) -> Put
         requires { self.old.count < CREDITS }
         ensures done { result ≡ puts.Done → AreForOne reply self.old × (self.new ≡ with_more reply self.old) }
@@ -109,7 +110,7 @@ impl<L: Ledger> Backlog<L> {
     pub fn take_first(&mut self) -> Option<ReplyBytes<L>>
         ensures some { IfSome result (λ one. (self.old.bytes ≡ one.bytes ++ self.new.bytes)
             × (self.old.answers ≡ one.answers ++ self.new.answers) × (self.old.count ≡ self.new.count + 1)) }
-        ensures none { IfNone result ((self.old.count ≡ 0) × (self.new ≡ self.old)) }
+        ensures none { IfNone result ((self.old.bytes ≡ []) × (self.new ≡ self.old)) }
         ensures goes_to { (self.new.key ≡ self.old.key) × (self.new.number ≡ self.old.number) }
     {
         self.replies.pop_front()
