@@ -43,7 +43,7 @@ use Rattle.store_workers.specs.Room.{HasRoomIn, IsNoLess, is_answer, reply_for, 
 use Rattle.store_workers.specs.Traces.{committed_as, committed_by}
 use Rattle.store_workers.specs.WorkerAnswers.{after_commit, answered_or_waiting, committed, committing_of, phase_claimed}
 use Rattle.store_workers.specs.WorkerAnswers.{phase_off, phase_wanted, with_answer, with_entry}
-use Rattle.store_workers.specs.WorkerSteps.{GoesOn, HasClaimed, HasLacked, HasWanted, IsReplySent, WorkerAndCore, given_step, with_snap}
+use Rattle.store_workers.specs.WorkerSteps.{GoesOn, HasClaimed, HasLacked, HasWanted, IsReplySent, WorkerAndCore, given_step, none_begun, with_snap}
 use Rattle.store_workers.specs.WorkerSteps.{phase_given}
 use Rattle.txn.specs.Fetch.{Fetch}
 use Rattle.store_workers.specs.declared.workers.parts.Job.{Job}
@@ -181,8 +181,8 @@ module _ (made : Step) (grown ready : Option ℕ) where
 
   goes_as : (state new : State) → new ≡ state → is_open state.phase ≡ true → HasLeastRoom grown
       → HasRoomForAnswer ready state.work → IsRoomy (Some made) new grown ready
-  goes_as state new is open least answer =
-      subst (λ (s : State). IsRoomy (Some made) s grown ready) (sym is) (goes_on state open least answer)
+  goes_as state new is under_way least answer =
+      subst (λ (s : State). IsRoomy (Some made) s grown ready) (sym is) (goes_on state under_way least answer)
 
   -- its procedure was committed
   placed : (stable : Bool) (job : Job) (reply : Reply) (place : Seq) (state : State)
@@ -257,9 +257,13 @@ module _ (short : ShortFit) (larger : FitsMore) (old new : WorkerAndCore) (room 
       → HasRoomIn (Waiting place) old.worker.work room → HasRoomForAnswer ready old.worker.work → IsNoLess room grown
       → IsReplySent settled broken place old.worker new.worker → IsRoomy (Some made) new.worker grown ready
   waits place made true broken phase_is call answer more has =
-      sent place made old.worker.work.reply (Some place) _ (kept_more old.worker.work.reply more call.0) has
+      sent place made old.worker.work.reply (Some place)
+      (record old.worker { work = record old.worker.work { reply = None } })
+      (kept_more old.worker.work.reply more call.0) has
   waits place made false true phase_is call answer more has =
-      sent place made old.worker.work.broken_reply (Some place) _ (kept_more old.worker.work.broken_reply more call.1) has
+      sent place made old.worker.work.broken_reply (Some place)
+      (record old.worker { work = record old.worker.work { broken_reply = None } })
+      (kept_more old.worker.work.broken_reply more call.1) has
   waits place made false false phase_is call answer more has =
       subst (λ (s : State). IsRoomy (Some made) s grown ready) (sym has) (record {
         call = subst (λ (p : Phase). HasRoomIn p old.worker.work grown) (sym phase_is)
@@ -290,12 +294,13 @@ module _ (short : ShortFit) (larger : FitsMore) (old new : WorkerAndCore) (room 
     committed = λ job tx done made tx_is next left job_is has phase_is call answer grows.
         commits job done.reply (blocks_of done.written) has.answer _ has.worker (grown_least _ grows call) answer grows;
     lacked = λ tx made tx_is left has phase_is call answer grows.
-        answers_as _ grown ready (verdicts.NoMemory alloc_error) None _ new.worker has.worker
+        answers_as _ grown ready (verdicts.NoMemory alloc_error) None
+        (record (with_snap new.worker old.worker) { begun = none_begun }) new.worker has.worker
         (short_in short larger grown _ (grown_least _ grows call) tt);
     given = λ ok io made io_is has phase_is call answer grows.
         goes_as _ grown ready _ new.worker has.worker (given_open ok) (grown_least _ grows call) answer;
     refused = λ why job tx made job_is tx_is has phase_is call answer grows.
-        answers_as _ grown ready _ None _ new.worker has.worker
+        answers_as _ grown ready _ None (record old.worker { begun = none_begun }) new.worker has.worker
         (refused_short job.call why (grown_least _ grows call));
     left = λ tx made tx_is has phase_is call answer grows.
         goes_as _ grown ready _ new.worker has.worker refl (grown_least _ grows call) answer;
@@ -336,27 +341,9 @@ least_of state rooms has is = subst (λ (p : Phase). HasRoomIn p state.work room
 
 -- ---- what happens between the steps
 
-pub room_at_rest : (state : State) → state.phase ≡ Idle → state.work.answer ≡ None
-    → HasRoom state (record { call = None; ready = None })
-room_at_rest state idle none = record {
-  call = subst (λ (p : Phase). HasRoomIn p state.work None) (sym idle) tt;
-  answer = subst (λ answer. IfSome answer (λ one. HasRoomFor None (reply_for one.verdict))) (sym none) tt;
-}
-
-pub room_handed : (ctx : Ctx) (call : Call) (state : State) (rooms : Rooms) (room : ℕ) → HasRoom state rooms
-    → SHORT_REPLY_BYTES ≤ room → HasRoom (with_call ctx call state) (record rooms { call = Some room })
-room_handed ctx call state rooms room has enough = record { call = enough; answer = has.answer }
-
 pub room_read : (ok : Bool) (io : Fetch) (content : Content) (state : State) (rooms : Rooms) → HasRoom state rooms
     → state.phase ≡ Reading → HasRoom (with_read ok io content state) rooms
 room_read ok io content state rooms has is = record {
-  call = subst (λ (p : Phase). HasRoomIn p state.work rooms.call) is has.call;
-  answer = has.answer;
-}
-
-pub room_again : (state : State) (rooms : Rooms) (knowing : Knowing) → HasRoom state rooms → state.phase ≡ Planning
-    → HasRoom (record state { phase = Again; known = knowing }) rooms
-room_again state rooms knowing has is = record {
   call = subst (λ (p : Phase). HasRoomIn p state.work rooms.call) is has.call;
   answer = has.answer;
 }
@@ -375,105 +362,3 @@ room_planned state new rooms has is = subst (λ (s : State). HasRoom s rooms) (s
     in_phase (Refused why) it = it
     in_phase Again it = it
     in_phase (Waiting place) it = it
-
-pub room_reported : (state : State) (rooms : Rooms) → HasRoom state rooms
-    → HasRoom (reported state) (record rooms { ready = None })
-room_reported state rooms has = record { call = in_phase state.phase has.call; answer = tt }
-  where
-    in_phase : (phase : Phase) → HasRoomIn phase state.work rooms.call → HasRoomIn phase (reported state).work rooms.call
-    in_phase Idle it = it
-    in_phase Called it = it
-    in_phase Planning it = it
-    in_phase Reading it = it
-    in_phase (Read ok) it = it
-    in_phase (Refused why) it = it
-    in_phase Again it = it
-    in_phase (Waiting place) it = it
-
--- ---- what one step grows
-
-pub unchanged : (made : Option Step) (state : State) (room : Option ℕ) → committed_by made state ≡ None
-    → HasGrown made state room room
-unchanged made state None none = record {
-  more = refl;
-  fits = subst (λ entry. IfSome entry (λ one. HasRoomFor None (reply_for (verdicts.Reply one.reply)))) (sym none) tt;
-}
-unchanged made state (Some capacity) none = record {
-  more = omega arith;
-  fits = subst (λ entry. IfSome entry (λ one. HasRoomFor (Some capacity) (reply_for (verdicts.Reply one.reply)))) (sym none) tt;
-}
-
--- behind a commit that was tried
-pub grown_by : (job : Job) (reply : Reply) (added : List BlockNo) (answer : Commit Outcome) (old new : State)
-    (room grown : Option ℕ) → new ≡ after_commit job reply answer old → IsNoLess room grown
-    → HasRoomFor grown (reply_for (verdicts.Reply reply))
-    → HasGrown (Some (step.Commit added (committing_of answer))) new room grown
-grown_by job reply added (commit.Committed receipt) old new room grown is more fits = record {
-  more = more;
-  fits = subst (λ (s : State). IfSome s.work.entry (λ entry. HasRoomFor grown (reply_for (verdicts.Reply entry.reply))))
-      (sym is) fits;
-}
-grown_by job reply added (commit.Full back change) old new room grown is more fits = record { more = more; fits = tt }
-grown_by job reply added (commit.Foreign back change) old new room grown is more fits = record { more = more; fits = tt }
-grown_by job reply added (commit.NoMemory back change error) old new room grown is more fits =
-    record { more = more; fits = tt }
-grown_by job reply added (commit.Broken back change) old new room grown is more fits = record { more = more; fits = tt }
-grown_by job reply added (commit.Spent back change) old new room grown is more fits = record { more = more; fits = tt }
-
-pub grown_with : (found : Option Job) (reply : Reply) (added : List BlockNo) (answer : Commit Outcome) (old new : State)
-    (room grown : Option ℕ) → IsSomeAnd found (λ job. Unit {0})
-    → IfSome found (λ job. new ≡ after_commit job reply answer old) → IsNoLess room grown
-    → HasRoomFor grown (reply_for (verdicts.Reply reply))
-    → HasGrown (Some (step.Commit added (committing_of answer))) new room grown
-grown_with None reply added answer old new room grown some is more fits = absurd some
-grown_with (Some job) reply added answer old new room grown some is more fits =
-    grown_by job reply added answer old new room grown is more fits
-
--- ---- steps that commit nothing
-
-module _ (made : Step) (new state : State) (room : Option ℕ) where
-  as_made : (other : Step) → made ≡ other → committed_by (Some other) state ≡ None → HasGrown (Some made) state room room
-  as_made other is none =
-      unchanged (Some made) state room (subst (λ (s : Step). committed_by (Some s) state ≡ None) (sym is) none)
-
-pub wanted_grows : (tx : ℕ) (addr : Addr) (mode : Mode) (old new : WorkerAndCore) (made : Step) (room : Option ℕ)
-    → HasWanted tx addr mode old made new → HasGrown (Some made) new.worker room room
-wanted_grows tx addr mode old new made room has = as_made made new.worker new.worker room _ has.made_is refl
-
-pub claimed_grows : (tx : ℕ) (block : BlockNo) (old new : WorkerAndCore) (made : Step) (room : Option ℕ)
-    → HasClaimed tx block old made new → HasGrown (Some made) new.worker room room
-claimed_grows tx block old new made room has = as_made made new.worker new.worker room _ has.made_is refl
-
-pub lacked_grows : (tx : ℕ) (old new : WorkerAndCore) (made : Step) (room : Option ℕ)
-    → HasLacked tx old made new → HasGrown (Some made) new.worker room room
-lacked_grows tx old new made room has = as_made made new.worker new.worker room _ has.made_is refl
-
-module _ (old new : WorkerAndCore) where
-  abbrev CommitsNone : Phase → Option Step → Type 0
-  CommitsNone phase made = (phase ≡ Planning → ⊥) → committed_by made new.worker ≡ None
-
-  given_none : (ok : Bool) (io : Fetch) → committed_by (Some (given_step ok io)) new.worker ≡ None
-  given_none true io = refl
-  given_none false io = refl
-
-  none_cases : Cases old new CommitsNone
-  none_cases = record {
-    idle = λ is not. refl;
-    reading = λ is not. refl;
-    begun = λ job number job_is served has not. refl;
-    not_begun = λ job why job_is served none core worker not. refl;
-    replied = λ job job_is served core worker not. refl;
-    wanted = λ tx addr mode made tx_is next has not. absurd (not refl);
-    claimed = λ tx block made tx_is next has not. absurd (not refl);
-    committed = λ job tx done made tx_is next left job_is has not. absurd (not refl);
-    lacked = λ tx made tx_is left has not. absurd (not refl);
-    given = λ ok io made io_is has not. given_none ok io;
-    refused = λ why job tx made job_is tx_is has not. refl;
-    left = λ tx made tx_is has not. refl;
-    waited = λ place made has not. refl;
-  }
-
-  pub grows_by : (phase : Phase) (made : Option Step) (room : Option ℕ) → (phase ≡ Planning → ⊥) → GoesOn phase old made new
-      → HasGrown made new.worker room room
-  grows_by phase made room not goes =
-      unchanged made new.worker room (by_cases old new CommitsNone none_cases phase made goes not)

@@ -59,7 +59,9 @@ pub(super) fn grow_for(
     match room.grow_for(alloc, RpcReply::Nfs(done.reply())) {
         Ok(()) => Ok(()),
         Err(XdrFault::NoMemory(error)) => Err(error),
-        Err(_) => unreachable!(),
+        Err(XdrFault::Length) => unreachable!(),
+        Err(XdrFault::Short) | Err(XdrFault::Padding) => unreachable!(),
+        Err(XdrFault::Value) | Err(XdrFault::Left) => unreachable!(),
     }
 }
 

@@ -1,4 +1,5 @@
-use Rattle.std.proofs.Common.{subst, sym}
+use Rattle.std.proofs.Common.{◌≡◌, subst, sym}
+use Rattle.store_workers.specs.declared.workers.parts.Phase.TheVariants.{Reading}
 use Rattle.store_workers.proofs.Roomy.{room_read}
 use Rattle.store_workers.specs.Room.{HasRoom}
 use Rattle.store_workers.specs.declared.workers.parts.State.{State}
@@ -11,5 +12,6 @@ invariant_of-self g c =
     record {
       prepared = tt;
       room = subst (λ (s : State). HasRoom s rooms) (sym has.worker)
-          (room_read _ has.io has.content c.self.inside.state rooms c.self.invariant.room c.requires.due);
+          (room_read _ has.io has.content c.self.inside.state rooms c.self.invariant.room
+          (subst (λ (s : State). s.phase ≡ Reading) (sym c.self.view_is) c.requires.due));
     }
