@@ -2,7 +2,9 @@
 ghost use Rattle.std.specs.Prelude.{◌≡◌, ◌≤◌, IfSome, IsSomeAnd, IsTrue};
 ghost use Rattle.session_wire.specs.Capacity.{FitsIn};
 ghost use Rattle.store_workers.specs.Room.{HasRoomFor};
-ghost use Rattle.pool.specs.Answers.{GivesBy, answer_of, body_of, in_flight_with, given_to, kept, way_by};
+ghost use Rattle.pool.specs.Answers.{GivesBy, IsInPlace, answer_of, body_of, evidence_of_verdict, in_flight_with};
+ghost use Rattle.pool.specs.Answers.{given_to, kept, way_by};
+ghost use Rattle.pool_requests.specs.Answers.Evident.{answer_to as made_of};
 
 use nfs_types::ProgramReply;
 use pool_requests::{Answer, ReplyAddress};
@@ -178,16 +180,28 @@ fn answer_of<L: Ledger>(
         (Way::Nothing, _, _) => {
             return Answer::of_nothing(reply_address, room, share);
         }
-        (_, _, Verdict::Reply(reply)) => {
-            return Answer::substitute(
-                reply_address,
-                ReplyBody::Done(ProgramReply::Nfs(reply)),
-                room,
-                share,
-            );
+        (_, _, verdict) => {
+            return in_its_place(reply_address, verdict, room, share);
         }
-        (_, _, Verdict::NoMemory(error)) => {
-            return Answer::lacking(reply_address, error, room, share);
+    }
+}
+
+// What is answered in the place of a reply.
+fn in_its_place<L: Ledger>(
+    reply_address: ReplyAddress,
+    verdict: Verdict,
+    room: ReplyRoom,
+    share: &Share<L>,
+) -> Answer<L>
+    requires in_place { IsInPlace reply_address.job.call verdict }
+    requires room { FitsIn room (body_of verdict) }
+    ensures { result ≡ made_of reply_address.job (body_of verdict) (evidence_of_verdict reply_address verdict) }
+{
+    match verdict {
+        Verdict::Reply(reply) => {
+            let body = ReplyBody::Done(ProgramReply::Nfs(reply));
+            Answer::substitute(reply_address, body, room, share)
         }
+        Verdict::NoMemory(error) => Answer::lacking(reply_address, error, room, share),
     }
 }

@@ -18,8 +18,7 @@ use disk::CrashDisk;
 use nfs_types::{Credential, Moment, MountCall, ProgramCall};
 use rpc::Refusal;
 use session_wire::{
-    Judged, Lacking, ReplyRoom, RpcReply, judge, mount_reply, short_replies_fit,
-    what_fits_fits_into_more,
+    Judged, ReplyRoom, RpcReply, judge, mount_reply, short_replies_fit, what_fits_fits_into_more,
 };
 use std::alloc::{AllocError, Global};
 use std::io::Write;
@@ -51,7 +50,7 @@ pub fn serve_record<D: CrashDisk, W: Write>(
     room.is_enough();
     are_bytes(message.as_slice());
     match judge(alloc, message) {
-        Err(Lacking { xid, error }) => lack(alloc, store, room, xid, error, writer),
+        Err(lacking) => lack(alloc, store, room, lacking.xid, lacking.error, writer),
         Ok(Judged::Closed) => Err(SessionFault::Record),
         Ok(Judged::Refused { xid, refusal }) => {
             short_replies_fit();
@@ -158,7 +157,13 @@ fn lack<D: CrashDisk, W: Write>(
     store.core.refuse(error);
     short_replies_fit();
     what_fits_fits_into_more();
-    put(alloc, writer, room, xid, RpcReply::Refused(Refusal::SystemError))
+    put(
+        alloc,
+        writer,
+        room,
+        xid,
+        RpcReply::Refused(Refusal::SystemError),
+    )
 }
 
 /// What a call is answered by what came of its procedure: its reply, or a system error where an allocation

@@ -14,7 +14,7 @@ use nfs_types::{Call, Credential, Ctx, Moment, ProgramCall, ProgramReply, Reply}
 use plain_steps::answer;
 use plain_tree::PlainTree;
 use rpc::Refusal;
-use session_wire::{Judged, Lacking, RpcReply, judge, reply_bytes};
+use session_wire::{Judged, RpcReply, judge, reply_bytes};
 use std::alloc::{AllocError, Global};
 use xdr::XdrFault;
 
@@ -72,7 +72,7 @@ pub fn answer_record(
 {
     are_bytes(message.as_slice());
     match judge(alloc, message) {
-        Err(Lacking { xid, error: _ }) => Ok(Some(refused(alloc, xid, Refusal::SystemError)?)),
+        Err(lacking) => Ok(Some(refused(alloc, lacking.xid, Refusal::SystemError)?)),
         Ok(Judged::Closed) => Ok(None),
         Ok(Judged::Refused { xid, refusal }) => Ok(Some(refused(alloc, xid, refusal)?)),
         Ok(

@@ -12,7 +12,7 @@ returns-clause-lacked g c =
     let device = g.D.CrashDisk.device c.args.store.now.disk in
     let boot = c.args.store.now.boot in
     let old = store_of device c.args.store.now.core boot in
-    let new = store_of device c.refuse.new.core boot in
+    let new = store_of device c.refuse.new.self boot in
     let xid = c.args.xid in
     delivers_so (IsSpelled xid (bodies.Refused SystemError))
     (λ (reply : List ℕ). HasLacked old xid reply new) _ _ _

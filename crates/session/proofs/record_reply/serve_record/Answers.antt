@@ -59,7 +59,7 @@ returns-in-Err-clause-serves g c =
     let matched = c.in-Err in
     let message = c.args.message.now in
     let preserves = g.D.CrashDisk.keeps_model after.disk in
-    inl (delivers_so (λ (reply : List ℕ). HasLacked old matched.xid reply new)
+    inl (delivers_so (λ (reply : List ℕ). HasLacked old matched.lacking.xid reply new)
     (λ (reply : List ℕ). IsMessageAnswered preserves c.args.moment old (judged message) reply new) _ _ _
-    (λ reply lacked. judged_lacking preserves c.args.moment old new (judged message) matched.xid reply
+    (λ reply lacked. judged_lacking preserves c.args.moment old new (judged message) matched.lacking.xid reply
     matched.ensures lacked) c.lack.ensures.lacked)

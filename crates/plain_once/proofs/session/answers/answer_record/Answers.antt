@@ -1,7 +1,7 @@
 use Rattle.std.proofs.Common.{ℕ, ◌<◌, List, get_or, refl, subst}
 use Rattle.session_wire.specs.Judging.{judged}
 use Rattle.plain_once.specs.Session.Answering.{Files}
-use Rattle.plain_once.proofs.SessionLemmas.Closing.{called, closed, refusal}
+use Rattle.plain_once.proofs.SessionLemmas.Closing.{called, closed, lacking, refusal}
 use Rattle.plain_once.proofs.SessionLemmas.Lost.{on_err}
 use Rattle.plain_once.proofs.SessionLemmas.Taken.{taken}
 use Rattle.plain_once.proofs.session.answers.answer_record.Goals as goal
@@ -18,7 +18,12 @@ returns-in-Ok-Closed-clause-closed c = λ same.
 
 pub returns-in_err-refused-in-Ok-Refused-clause-lost : goal.returns-in_err-refused-in-Ok-Refused-clause-lost
 returns-in_err-refused-in-Ok-Refused-clause-lost c =
-    on_err c.from_residual.result (_, refusal _ _ _ _ _ (rw c.in-Ok-Refused.field-0-is at c.in-Ok-Refused.ensures) refl)
+    on_err c.from_residual-in_err-refused-in-Ok-Refused.result (_, refusal _ _ _ _ _ (rw c.in-Ok-Refused.field-0-is at c.in-Ok-Refused.ensures) refl)
+
+pub returns-in_err-refused-in-Err-clause-lost : goal.returns-in_err-refused-in-Err-clause-lost
+returns-in_err-refused-in-Err-clause-lost c =
+    on_err c.from_residual.result
+    (_, lacking _ _ _ _ c.in-Err.ensures refl)
 
 pub returns-in_err-answer_call-in-Ok-Call-clause-lost : goal.returns-in_err-answer_call-in-Ok-Call-clause-lost
 returns-in_err-answer_call-in-Ok-Call-clause-lost c =
