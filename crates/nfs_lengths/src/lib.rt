@@ -1,7 +1,8 @@
 //! How long a reply of NFS version 3 may be, and that each which the sequential server gives is as short.
 #![tactic(auto)]
 
-ghost use Rattle.std.specs.Prelude.{◌↔◌, ◌≡◌, IsTrue, true};
+ghost use Rattle.std.specs.Prelude.{◌≡◌, IfNone, IfSome, true, length};
+ghost use Rattle.nfs_results.specs.Results.{nfs_result_bytes};
 ghost use Rattle.nfs_lengths.specs.Lengths.{IsShort};
 ghost use Rattle.nfs_spec.specs.Model.Calls.{begins_transaction};
 ghost use Rattle.nfs_spec.specs.Model.Refused.{refused};
@@ -20,14 +21,17 @@ use std::alloc::Global;
 /// How many bytes a result has at most: those of the longest READ, and room for what stands beside them.
 pub const RESULT_BYTES: usize = 139_000;
 
-/// Whether a reply is short: no length in it is past four bytes, and its result has RESULT_BYTES at most. It takes no
-/// memory.
-pub fn is_short(alloc: Global, reply: &Reply) -> bool
-    ensures { IsTrue result ↔ IsShort reply.now }
+/// How many bytes the result of a reply has, where it is short: no length in it is past four bytes, and its result has
+/// RESULT_BYTES at most. It takes no memory.
+pub fn short_len(alloc: Global, reply: &Reply) -> Option<usize>
+    ensures some { IfSome result (λ n. (n ≡ length (nfs_result_bytes reply.now)) × IsShort reply.now) }
+    ensures none { IfNone result (IsShort reply.now → ⊥) }
 {
-    match reply_len(alloc, reply) {
-        Some(length) => length <= RESULT_BYTES,
-        None => false,
+    let length = reply_len(alloc, reply)?;
+    if length <= RESULT_BYTES {
+        Some(length)
+    } else {
+        None
     }
 }
 

@@ -12,10 +12,11 @@ use txn::{Change, Object};
 
 /// A finished plan: the reply, the objects that were read for it, those that it writes, and the counts of the
 /// image that it was worked out for. Its type keeps that these are what the plan of its call ended in, which is kept
-/// for proofs alone.
+/// for proofs alone; and how long the result of its reply is.
 #[derive(Drop)]
 pub struct Done {
     untested_plan: UntestedPlan,
+    result_len: usize,
 }
 
 impl Model for Done {
@@ -26,16 +27,26 @@ impl Model for Done {
 
     ghost view = { λ done. done.untested_plan };
 
-    ghost invariant = { λ done. IsFinished done.untested_plan };
+    ghost use Rattle.std.specs.Prelude.{◌×◌, ◌≡◌, length};
+    ghost use Rattle.nfs_results.specs.Results.{nfs_result_bytes};
+
+    ghost invariant = { λ done. IsFinished done.untested_plan
+        × (done.result_len ≡ length (nfs_result_bytes done.untested_plan.reply)) };
 }
 
 impl Done {
-    /// What a plan ended in.
-    pub(crate) fn new(untested_plan: UntestedPlan) -> Done
-        requires { IsFinished untested_plan }
+    ghost use Rattle.nfs_results.specs.Results.{nfs_result_bytes};
+
+    /// What a plan ended in, whose reply has a result of this length.
+    pub(crate) fn new(untested_plan: UntestedPlan, result_len: usize) -> Done
+        requires finished { IsFinished untested_plan }
+        requires length { result_len ≡ length (nfs_result_bytes untested_plan.reply) }
         ensures { result ≡ untested_plan }
     {
-        Done { untested_plan }
+        Done {
+            untested_plan,
+            result_len,
+        }
     }
 
     /// It is what the plan of its call ended in.
@@ -50,6 +61,13 @@ impl Done {
         ensures { result.now ≡ self.now.reply }
     {
         self.untested_plan.reply()
+    }
+
+    /// How many bytes the result of the reply has.
+    pub fn result_len(&self) -> usize
+        ensures { result ≡ length (nfs_result_bytes self.now.reply) }
+    {
+        self.result_len
     }
 
     /// The reply, by itself.

@@ -1,6 +1,7 @@
 //! Plans: what a call needs next, or what comes of it.
-ghost use Rattle.std.specs.Prelude.{◌≡◌, true, IfErr, IfOk};
+ghost use Rattle.std.specs.Prelude.{◌≡◌, true, IfErr, IfOk, length as len};
 ghost use Rattle.nfs_lengths.specs.Lengths.{IsShort};
+ghost use Rattle.nfs_results.specs.Results.{nfs_result_bytes};
 ghost use Rattle.nfs_spec.specs.Model.Calls.{begins_transaction};
 ghost use Rattle.inode.specs.Read.{NoneStand};
 ghost use Rattle.inode.specs.Snap.{IsNew};
@@ -22,7 +23,7 @@ use crate::untested_plan::UntestedPlan;
 use crate::update_calls::change_call;
 use dir::Names;
 use inode::{Snap, Suspend};
-use nfs_lengths::{a_refusal_is_short, a_step_tells_a_short_reply, is_short};
+use nfs_lengths::{a_refusal_is_short, a_step_tells_a_short_reply, short_len};
 use nfs_types::{Call, Ctx, Status};
 use procs_inspection::{is_refused, what_is_refused_is_in_no_tree};
 use std::alloc::Global;
@@ -121,26 +122,27 @@ fn answer_from_first(
     }
 }
 
-// The same, where nothing that was read is refused, and with a short reply. All that was read is looked through once, when
-// nothing more is to be read. Names, targets, data and listings are bounded where they are read, so that no reply is too
-// long; that it is so is tested, and proved only of a sound tree.
+// The same, where nothing that was read is refused, and with a short reply, whose length is counted once, here. All that was
+// read is looked through once, when nothing more is to be read. Names, targets, data and listings are bounded where they are
+// read, so that no reply is too long; that it is so is tested, and proved only of a sound tree.
 fn work(
     alloc: Global,
     ctx: &Ctx,
     call: &Call,
     snap: &Snap,
     names: &Names,
-) -> Result<UntestedPlan, Suspend>
+) -> Result<(UntestedPlan, usize), Suspend>
     requires served { begins_transaction call.now ≡ true }
     requires known { IsKnown snap.now names.now }
-    ensures made { IfOk result (λ done. IsMadeFor ctx.now call.now done) }
-    ensures ok { IfOk result (λ done. EndsFrom snap.now done) }
-    ensures step { IfOk result (λ done. IsStepOf snap.now.geometry ctx.now call.now done) }
+    ensures made { IfOk result (λ done. IsMadeFor ctx.now call.now done.0) }
+    ensures ok { IfOk result (λ done. EndsFrom snap.now done.0) }
+    ensures step { IfOk result (λ done. IsStepOf snap.now.geometry ctx.now call.now done.0) }
     ensures err { IfErr result (λ suspend. IsNew snap.now suspend) }
     ensures asks { IfErr result (λ suspend. IsAsked snap.now suspend) }
     ensures io { IfErr result (λ suspend. NoneStandFor ctx.now call.now snap.now suspend) }
     ensures sound { IfOk result (λ done. NoneRefusedIn snap.now call.now × NoneRead snap.now) }
-    ensures short { IfOk result (λ done. IsShort done.reply) }
+    ensures short { IfOk result (λ done. IsShort done.0.reply) }
+    ensures length { IfOk result (λ done. done.1 ≡ len (nfs_result_bytes done.0.reply)) }
 {
     match answer_from_first(alloc, ctx, call, snap, names) {
         Ok(done) => {
@@ -148,31 +150,32 @@ fn work(
                 what_is_refused_is_in_no_tree();
                 return Err(Suspend::Io);
             }
-            if is_short(alloc, done.reply()) {
-                return Ok(done);
-            }
-            a_step_tells_a_short_reply();
-            Err(Suspend::Io)
+            let Some(length) = short_len(alloc, done.reply()) else {
+                a_step_tells_a_short_reply();
+                return Err(Suspend::Io);
+            };
+            Ok((done, length))
         }
         Err(suspend) => Err(suspend),
     }
 }
 
-// A call is done.
-fn finish(ctx: &Ctx, call: &Call, snap: &Snap, untested_plan: UntestedPlan) -> Plan
+// A call is done, with a reply of this length.
+fn finish(ctx: &Ctx, call: &Call, snap: &Snap, untested_plan: UntestedPlan, length: usize) -> Plan
     requires sound { SoundCall ctx.now.credential ctx.now.moment call.now }
     requires served { begins_transaction call.now ≡ true }
     requires made { IsMadeFor ctx.now call.now untested_plan }
     requires ends { EndsFrom snap.now untested_plan }
     requires step { IsStepOf snap.now.geometry ctx.now call.now untested_plan }
     requires short { IsShort untested_plan.reply }
+    requires length { length ≡ len (nfs_result_bytes untested_plan.reply) }
     ensures plan { IsPlanFor snap.now result }
     ensures step { IsStepPlan snap.now.geometry ctx.now call.now result }
     ensures done { IsDoneWith untested_plan result }
     ensures made { IsPlanOf ctx.now call.now result }
 {
     untested_plan.few();
-    Plan::Done(Done::new(untested_plan))
+    Plan::Done(Done::new(untested_plan, length))
 }
 
 /// A run of the procedure over what was read so far, and by what is known of the call's names: what the call needs
@@ -189,7 +192,7 @@ pub(crate) fn run(alloc: Global, ctx: &Ctx, call: &Call, snap: &Snap, names: &Na
     ensures io { IsIoWhereRefused call.now snap.now result }
 {
     match work(alloc, ctx, call, snap, names) {
-        Ok(done) => finish(ctx, call, snap, done),
+        Ok((done, length)) => finish(ctx, call, snap, done, length),
         Err(Suspend::Need(addr, mode)) => Plan::Need(addr, mode),
         Err(Suspend::Claim(block)) => Plan::Claim(block),
         Err(Suspend::NoMemory(error)) => Plan::NoMemory(error),
@@ -202,7 +205,10 @@ pub(crate) fn run(alloc: Global, ctx: &Ctx, call: &Call, snap: &Snap, names: &Na
         ) {
             Ok(done) => {
                 a_refusal_is_short();
-                finish(ctx, call, snap, done)
+                let Some(length) = short_len(alloc, done.reply()) else {
+                    unreachable!();
+                };
+                finish(ctx, call, snap, done, length)
             }
             Err(error) => Plan::NoMemory(error),
         },

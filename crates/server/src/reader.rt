@@ -8,7 +8,6 @@ use disk::{Port, Source};
 use pool::{Answer, ConnectionKey, Received, ReplyBytes, Stream, Whole};
 use server_connection::{Buffer, Connection};
 use server_sync::SeatKey;
-use std::alloc::Global;
 use std::sync::Wait;
 use std::sync::ledger::Ledger;
 use std::time::Clock;
@@ -144,7 +143,7 @@ fn gather<L: Ledger, G: Whole, I: Whole, P: Port, S, R: Wait>(
             return Gathered::Batch;
         }
         let is_taken = match stream.next(server.alloc) {
-            Ok(Some(received)) => take_record(rt, server.alloc, context, received, batch),
+            Ok(Some(received)) => take_record(rt, context, received, batch),
             Ok(None) => {
                 context.connection.take_back(rt);
                 return Gathered::All;
@@ -163,7 +162,6 @@ fn gather<L: Ledger, G: Whole, I: Whole, P: Port, S, R: Wait>(
 // connection is to end: then the record's credit isn't used.
 fn take_record<L: Ledger, R: Wait>(
     rt: &R,
-    alloc: Global,
     context: &ConnectionContext<'_, L>,
     received: Received,
     batch: &mut Batch<L>,
@@ -171,7 +169,7 @@ fn take_record<L: Ledger, R: Wait>(
     match received {
         Received::Closed => false,
         Received::Answered(replied) => {
-            leave(rt, alloc, context, Answer::immediate(replied));
+            leave(rt, context, Answer::immediate(replied));
             true
         }
         Received::Job(job) => batch.jobs.push_back(job).is_ok(),
@@ -224,7 +222,7 @@ fn answer_some<L: Ledger, G: Whole, I: Whole, P: Port, S: Source, R: Wait + Cloc
         let Some(answer) = batch.answers.pop_front() else {
             break;
         };
-        leave(rt, server.alloc, context, answer);
+        leave(rt, context, answer);
     }
     if let Some(key) = batch.held_up.take() {
         is_well = drive_on(rt, server, context, key) && is_well;
@@ -258,7 +256,7 @@ fn drive_on<L: Ledger, G: Whole, I: Whole, P: Port, S: Source, R: Wait + Clock>(
     match see_through(rt, server, key) {
         Seen::SeatAwaitingLog => true,
         Seen::Answered(answer) => {
-            leave(rt, server.alloc, context, answer);
+            leave(rt, context, answer);
             true
         }
         Seen::Nothing => {
@@ -269,11 +267,6 @@ fn drive_on<L: Ledger, G: Whole, I: Whole, P: Port, S: Source, R: Wait + Clock>(
 }
 
 // Leaves the reply of an answer for this thread to write: it takes no memory.
-fn leave<L: Ledger, R: Wait>(
-    rt: &R,
-    alloc: Global,
-    context: &ConnectionContext<'_, L>,
-    answer: Answer<L>,
-) {
-    context.connection.leave(rt, ReplyBytes::of(alloc, answer));
+fn leave<L: Ledger, R: Wait>(rt: &R, context: &ConnectionContext<'_, L>, answer: Answer<L>) {
+    context.connection.leave(rt, ReplyBytes::of(answer));
 }

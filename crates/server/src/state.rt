@@ -80,12 +80,12 @@ impl<L: Ledger> Synchronization<L> {
     }
 
     /// Hands an answer to its connection, which writes it. One to a connection that has ended is let go.
-    pub fn deliver<R: Wait>(&self, rt: &R, alloc: Global, answer: Answer<L>) {
+    pub fn deliver<R: Wait>(&self, rt: &R, answer: Answer<L>) {
         let (key, number) = answer.goes_to();
         let Some(connection) = self.connection(rt, key, number) else {
             return;
         };
-        connection.answer(rt, Some(ReplyBytes::of(alloc, answer)));
+        connection.answer(rt, Some(ReplyBytes::of(answer)));
     }
 
     /// Ends the connection with this key and number, as one of its calls that were handed on isn't answered.

@@ -19,7 +19,7 @@ pub fn work_all<L: Ledger, G: Whole, I: Whole, P: Port, S: Source, R: Wait + Clo
         let (peer, number) = job.comes_from();
         let key = server.sync.free.take(rt);
         match answer_in(rt, server, key, job) {
-            Seen::Answered(answer) => server.sync.deliver(rt, server.alloc, answer),
+            Seen::Answered(answer) => server.sync.deliver(rt, answer),
             Seen::SeatAwaitingLog => {}
             Seen::Nothing => server.sync.let_go(rt, peer, number),
         }
@@ -36,7 +36,7 @@ pub fn finish_all<L: Ledger, G: Whole, I: Whole, P: Port, S: Source, R: Wait + C
             break;
         };
         match see_through(rt, server, key) {
-            Seen::Answered(answer) => server.sync.deliver(rt, server.alloc, answer),
+            Seen::Answered(answer) => server.sync.deliver(rt, answer),
             // (a seat that waited for the log has a call)
             Seen::SeatAwaitingLog | Seen::Nothing => {}
         }

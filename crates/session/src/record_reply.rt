@@ -50,12 +50,12 @@ pub fn serve_record<D: CrashDisk, W: Write>(
     room.is_enough();
     are_bytes(message.as_slice());
     match judge(alloc, message) {
-        Err(lacking) => lack(alloc, store, room, lacking.xid, lacking.error, writer),
+        Err(lacking) => lack(store, room, lacking.xid, lacking.error, writer),
         Ok(Judged::Closed) => Err(SessionFault::Record),
         Ok(Judged::Refused { xid, refusal }) => {
             short_replies_fit();
             what_fits_fits_into_more();
-            put(alloc, writer, room, xid, RpcReply::Refused(refusal))
+            put(writer, room, xid, RpcReply::Refused(refusal))
         }
         Ok(
             Judged::Call {
@@ -98,7 +98,7 @@ fn serve_call<D: CrashDisk, W: Write>(
     match call {
         ProgramCall::Nfs(call) => {
             let (verdict, room) = procedure(alloc, store, credential, moment, call, room);
-            let answered = put(alloc, writer, room, xid, reply_to(&verdict));
+            let answered = put(writer, room, xid, reply_to(&verdict));
             drop(verdict);
             answered
         }
@@ -128,17 +128,16 @@ fn serve_mount<D: CrashDisk, W: Write>(
         Ok(reply) => {
             short_replies_fit();
             what_fits_fits_into_more();
-            let answered = put(alloc, writer, room, xid, RpcReply::Mount(&reply));
+            let answered = put(writer, room, xid, RpcReply::Mount(&reply));
             drop(reply);
             answered
         }
-        Err(error) => lack(alloc, store, room, xid, error, writer),
+        Err(error) => lack(store, room, xid, error, writer),
     }
 }
 
 // Answers a call to which memory was refused before it came to its procedure, and has the core count that.
 fn lack<D: CrashDisk, W: Write>(
-    alloc: Global,
     store: &mut Store<D>,
     room: ReplyRoom,
     xid: u32,
@@ -157,13 +156,7 @@ fn lack<D: CrashDisk, W: Write>(
     store.core.refuse(error);
     short_replies_fit();
     what_fits_fits_into_more();
-    put(
-        alloc,
-        writer,
-        room,
-        xid,
-        RpcReply::Refused(Refusal::SystemError),
-    )
+    put(writer, room, xid, RpcReply::Refused(Refusal::SystemError))
 }
 
 /// What a call is answered by what came of its procedure: its reply, or a system error where an allocation

@@ -9,12 +9,10 @@ ghost use Rattle.session_wire.specs.Replies.{body_of};
 use crate::output::Output;
 use crate::stream::SessionFault;
 use session_wire::{ReplyRoom, RpcReply};
-use std::alloc::Global;
 use std::io::{ErrorKind, Write};
 
 /// Writes a reply, in the memory that was taken for it.
 pub fn put<W: Write>(
-    alloc: Global,
     writer: &mut Output<W>,
     room: ReplyRoom,
     xid: u32,
@@ -24,7 +22,7 @@ pub fn put<W: Write>(
     ensures { Delivers (λ bytes. IsSpelled xid (body_of reply.entry) bytes) (output_state_of W.contents writer.old) result
         (output_state_of W.contents writer.new) }
 {
-    let bytes = room.spell(alloc, xid, reply);
+    let bytes = room.spell(xid, reply);
     write_whole(writer, &bytes)
 }
 

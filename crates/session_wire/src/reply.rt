@@ -15,7 +15,7 @@ use std::mem::replace;
 use xdr::{Writer, XdrFault};
 
 // The bytes of the header of an accepted reply, up to its status.
-const ACCEPTED_BYTES: usize = 24;
+pub(crate) const ACCEPTED_BYTES: usize = 24;
 
 /// The bytes of a reply, as a record of one fragment. One that has a length of 2^32 or more in it, or 2^31
 /// bytes in all, is `Length`; where memory is refused it is `NoMemory`, with that error.
@@ -55,7 +55,7 @@ pub fn append_reply(
 }
 
 // The length of a reply, where a mark can tell it.
-pub(crate) fn length_in_mark(alloc: Global, xid: u32, reply: RpcReply) -> Option<u32>
+fn length_in_mark(alloc: Global, xid: u32, reply: RpcReply) -> Option<u32>
     ensures some { IfSome result (λ n. (n ≡ len (bytes_of xid (body_of reply.entry))) × (n < 2 ^ 31)
         × (body_too_long (body_of reply.entry) ≡ false)) }
     ensures none { IfNone result (IsTooLong xid (body_of reply.entry)) }
@@ -88,7 +88,7 @@ fn length_of(alloc: Global, xid: u32, reply: RpcReply) -> Option<usize>
 }
 
 // Writes a reply of this length behind its mark, where there is room for both.
-pub(crate) fn spell(out: &mut Writer, length: u32, xid: u32, reply: RpcReply)
+fn spell(out: &mut Writer, length: u32, xid: u32, reply: RpcReply)
     requires long { length ≡ len (bytes_of xid (body_of reply)) }
     requires less { length < 2 ^ 31 }
     requires short { body_too_long (body_of reply) ≡ false }
@@ -96,7 +96,17 @@ pub(crate) fn spell(out: &mut Writer, length: u32, xid: u32, reply: RpcReply)
     ensures written { out.new.bytes ≡ out.old.bytes ++ fragment true (bytes_of xid (body_of reply.entry)) }
     ensures counts { out.new.counts ≡ out.old.counts }
 {
-    match put_marked(out, LAST_FRAGMENT + length, xid, reply) {
+    put_behind(out, LAST_FRAGMENT + length, xid, reply);
+}
+
+// Writes a reply behind this mark, where there is room for both.
+pub(crate) fn put_behind(out: &mut Writer, mark: u32, xid: u32, reply: RpcReply)
+    requires short { body_too_long (body_of reply) ≡ false }
+    requires capacity { len out.old.bytes + (4 + len (bytes_of xid (body_of reply))) ≤ out.old.capacity }
+    ensures written { out.new.bytes ≡ out.old.bytes ++ (word mark ++ bytes_of xid (body_of reply.entry)) }
+    ensures counts { out.new.counts ≡ out.old.counts }
+{
+    match put_marked(out, mark, xid, reply) {
         Ok(()) => {}
         Err(_) => unreachable!(),
     }

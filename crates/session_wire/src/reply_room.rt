@@ -1,6 +1,8 @@
 //! The memory of a reply, which is taken before its call is done.
-ghost use Rattle.std.specs.Prelude.{◌≡◌, ◌≤◌, ◌⊎◌, ℕ, [], true, length as len, vec_capacity, IfErr, IfOk, OnErr, OnOk, alloc_error};
+ghost use Rattle.std.specs.Prelude.{◌≡◌, ◌≤◌, ◌++◌, ℕ, [], true, drop, length as len, vec_capacity, IfOk, OnOk};
 ghost use Rattle.nfs_lengths.specs.Lengths.{IsShort};
+ghost use Rattle.nfs_lengths.specs.declared.TheConstants.{RESULT_BYTES};
+ghost use Rattle.nfs_results.specs.Results.{nfs_result_bytes};
 ghost use Rattle.nfs_types.specs.declared.program.ProgramReply.TheVariants as program_replies;
 ghost use Rattle.nfs_types.specs.declared.reply.Reply.{Reply};
 ghost use Rattle.rpc.specs.Records.{fragment};
@@ -8,17 +10,22 @@ ghost use Rattle.session_wire.specs.Capacity.{FitsIn, RestsOnNothing};
 ghost use Rattle.session_wire.specs.Replies.{IsTooLong, body_of, reply_bytes};
 ghost use Rattle.session_wire.specs.declared.message.ReplyBody.{ReplyBody};
 ghost use Rattle.session_wire.specs.declared.message.ReplyBody.TheVariants as bodies;
-ghost use Rattle.session_wire.specs.declared.reply_room.TheConstants.{SHORT_REPLY_BYTES};
-ghost use Rattle.xdr.specs.declared.fault.XdrFault.TheVariants.{Length, NoMemory};
+ghost use Rattle.session_wire.specs.declared.reply_room.TheConstants.{MARK_BYTES, SHORT_REPLY_BYTES};
+ghost use Rattle.xdr.specs.Items.{word};
 
 use crate::message::RpcReply;
-use crate::reply::{length_in_mark, spell};
+use crate::reply::{ACCEPTED_BYTES, put_behind};
+use byteorder::{BigEndian, ByteOrder};
+use rpc::LAST_FRAGMENT;
 use std::alloc::{AllocError, Global};
 use std::marker::Model;
-use xdr::{Writer, XdrFault};
+use xdr::Writer;
 
 /// How many bytes a record brings memory for: each answer that rests on no commit fits, with its mark.
 pub const SHORT_REPLY_BYTES: usize = 64;
+
+// The bytes of a mark (RFC 5531, section 11).
+const MARK_BYTES: usize = 4;
 
 /// Memory for one reply. A clause sees for how many bytes: for SHORT_REPLY_BYTES at least.
 #[derive(Drop)]
@@ -54,32 +61,40 @@ impl ReplyRoom {
         let _ = &self.bytes;
     }
 
-    /// Grows, where it has to, so that this reply fits, whatever its number. A reply that no record can hold is `Length`;
-    /// where memory is refused it is `NoMemory`, with that error, and nothing changes.
-    pub fn grow_for(&mut self, alloc: Global, reply: RpcReply) -> Result<(), XdrFault>
-        ensures fits { OnOk result (FitsIn self.new (body_of reply.entry)) }
+    /// Grows, where it has to, so that a short reply whose result has so many bytes fits, whatever its number. Where memory is
+    /// refused nothing changes.
+    pub fn grow_for(&mut self, result_len: usize) -> Result<(), AllocError>
+        requires { result_len ≤ RESULT_BYTES }
+        ensures fits { OnOk result ((reply : Reply) → IsShort reply → len (nfs_result_bytes reply) ≡ result_len
+            → FitsIn self.new (bodies.Done (program_replies.Nfs reply))) }
         ensures grows { self.old ≤ self.new }
-        ensures err { IfErr result (λ e. ((e ≡ Length) × IsTooLong 0 (body_of reply.entry)) ⊎ (e ≡ NoMemory alloc_error)) }
     {
-        let Some(length) = length_in_mark(alloc, 0, reply) else {
-            return Err(XdrFault::Length);
-        };
-        self.bytes.reserve(4 + length as usize)?;
+        self.bytes
+            .reserve(MARK_BYTES + ACCEPTED_BYTES + result_len)?;
         Ok(())
     }
 
-    /// The record of a reply that fits. It takes no memory.
-    pub fn spell(self, alloc: Global, xid: u32, reply: RpcReply) -> Vec<u8>
+    /// The record of a reply that fits. It takes no memory: the mark is set once it is known how long the reply is.
+    pub fn spell(self, xid: u32, reply: RpcReply) -> Vec<u8>
         requires fits { FitsIn self (body_of reply) }
         ensures { result.items ≡ fragment true (reply_bytes xid (body_of reply.entry)) }
     {
-        let Some(length) = length_in_mark(alloc, xid, reply) else {
-            unreachable!();
-        };
         let mut writer = Writer::behind(self.bytes);
-        spell(&mut writer, length, xid, reply);
-        writer.into_bytes()
+        put_behind(&mut writer, 0, xid, reply);
+        let mut record = writer.into_bytes();
+        let length = record.len() - MARK_BYTES;
+        set_mark(&mut record, LAST_FRAGMENT + length as u32);
+        record
     }
+}
+
+// Puts another mark in the place of the first four bytes.
+#[tactic(auto, unfolding(xdr::specs::Items::word))]
+fn set_mark(record: &mut Vec<u8>, mark: u32)
+    requires { MARK_BYTES ≤ len record.old.items }
+    ensures { record.new.items ≡ word mark ++ drop MARK_BYTES record.old.items }
+{
+    BigEndian::write_u32(record, mark);
 }
 
 /// A short reply isn't too long for a record, whatever its number.

@@ -3,7 +3,6 @@ ghost use Rattle.std.specs.Prelude.{◌≡◌};
 
 use crate::answers::Answer;
 use http_server::Log;
-use std::alloc::Global;
 use std::marker::Model;
 use std::sync::ledger::Ledger;
 
@@ -60,7 +59,7 @@ impl<L: Ledger> ReplyBytes<L> {
 
     /// The bytes of an answer, in the memory that it brings: none is taken for them.
     #[tactic(auto, using(crate::proofs::AnswersLemmas::Puts::only_one))]
-    pub fn of(alloc: Global, answer: Answer<L>) -> ReplyBytes<L>
+    pub fn of(answer: Answer<L>) -> ReplyBytes<L>
         ensures { result ≡ record {
           key = answer.key;
           number = answer.number;
@@ -73,7 +72,7 @@ impl<L: Ledger> ReplyBytes<L> {
         ReplyBytes {
             key,
             number,
-            bytes: answer.into_bytes(alloc),
+            bytes: answer.into_bytes(),
             answers,
         }
     }

@@ -56,7 +56,7 @@ impl State {
             Ok(copy) => copy,
             Err(error) => return self.lack(core, tx, error),
         };
-        if let Err(error) = grow_for(alloc, room, &done) {
+        if let Err(error) = grow_for(room, &done) {
             return self.lack(core, tx, error);
         }
         done.finished();

@@ -5,10 +5,9 @@ ghost use Rattle.store_workers.specs.Room.{HasLeastRoom, HasRoomFor, IsNoLess, i
 
 use super::parts::Phase;
 use procs::Done;
-use session_wire::{ReplyRoom, RpcReply, a_short_reply_fits_a_record};
-use std::alloc::{AllocError, Global};
+use session_wire::ReplyRoom;
+use std::alloc::AllocError;
 use store_promise::Step;
-use xdr::XdrFault;
 
 // The memory of a call, and that of the answer that lies ready.
 #[derive(Drop)]
@@ -42,11 +41,7 @@ impl Rooms {
 }
 
 // Has memory for the reply of a finished plan, before that is committed.
-pub(super) fn grow_for(
-    alloc: Global,
-    room: &mut Option<ReplyRoom>,
-    done: &Done,
-) -> Result<(), AllocError>
+pub(super) fn grow_for(room: &mut Option<ReplyRoom>, done: &Done) -> Result<(), AllocError>
     requires { HasLeastRoom room.old }
     ensures more { IsNoLess room.old room.new }
     ensures fits { OnOk result (HasRoomFor room.new (reply_for (verdicts.Reply done.now.reply))) }
@@ -55,14 +50,7 @@ pub(super) fn grow_for(
         unreachable!();
     };
     done.finished();
-    a_short_reply_fits_a_record();
-    match room.grow_for(alloc, RpcReply::Nfs(done.reply())) {
-        Ok(()) => Ok(()),
-        Err(XdrFault::NoMemory(error)) => Err(error),
-        Err(XdrFault::Length) => unreachable!(),
-        Err(XdrFault::Short) | Err(XdrFault::Padding) => unreachable!(),
-        Err(XdrFault::Value) | Err(XdrFault::Left) => unreachable!(),
-    }
+    room.grow_for(done.result_len())
 }
 
 // Whether a step that leaves a worker in this phase has answered its call.
