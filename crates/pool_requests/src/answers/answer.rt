@@ -68,6 +68,7 @@ impl<L: Ledger> Answer<L> {
     ghost use Rattle.session_wire.specs.declared.message.ReplyBody.TheVariants as body;
 
     /// The reply to a record that begins no transaction.
+    #[tactic(auto, using(crate::proofs::AnswersLemmas::Immediates::fits))]
     pub fn immediate(replied: Immediate) -> Answer<L>
         ensures bears { (result.key ≡ replied.key) × (result.number ≡ replied.number) × (result.xid ≡ replied.xid) }
         ensures body { result.body ≡ replied.body }

@@ -13,12 +13,12 @@ returns-then-is_refused-clause-io c = λ blocks tree sound stands saw.
       whole = λ number less. (stands.bytes number less).0;
     }))
 
-pub returns-else-is_refused-then-is_short-clause-sound : goal.returns-else-is_refused-then-is_short-clause-sound
-returns-else-is_refused-then-is_short-clause-sound c =
+pub returns-then-is_short-clause-sound : goal.returns-then-is_short-clause-sound
+returns-then-is_short-clause-sound c =
     let nothing = c.is_refused.ensures.none c.if-is_refused.false in (c.in-Ok.ensures.sound nothing, nothing)
 
-pub returns-else-is_refused-else-is_short-clause-io : goal.returns-else-is_refused-else-is_short-clause-io
-returns-else-is_refused-else-is_short-clause-io c = λ blocks tree sound stands saw.
+pub returns-else-is_short-clause-io : goal.returns-else-is_short-clause-io
+returns-else-is_short-clause-io c = λ blocks tree sound stands saw.
     let done = c.in-Ok.done in
     let made = c.in-Ok.ensures.step blocks tree sound stands
     (subst (AreAsRead blocks) (sym c.in-Ok.ensures.ok.named.read) saw) in
