@@ -27,7 +27,7 @@ impl Model for Done {
 
     ghost view = { λ done. done.untested_plan };
 
-    ghost use Rattle.std.specs.Prelude.{◌×◌, ◌≡◌, length};
+    ghost use Rattle.std.specs.Prelude.{◌≡◌, length};
     ghost use Rattle.nfs_results.specs.Results.{nfs_result_bytes};
 
     ghost invariant = { λ done. IsFinished done.untested_plan

@@ -1,4 +1,4 @@
-use Rattle.std.proofs.Common.{◌≡◌, subst}
+use Rattle.std.proofs.Common.{subst}
 use Rattle.std.proofs.lemmas.Option.{same_Some}
 use Rattle.dir.specs.Search.Known.{IsKnown}
 use Rattle.procs.proofs.restarted.names_of.Goals as goal

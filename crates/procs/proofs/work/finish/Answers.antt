@@ -3,8 +3,8 @@ use Rattle.procs.specs.Steps.{IsStepOf}
 use Rattle.procs.proofs.Finishes.{finished}
 use Rattle.procs.proofs.work.finish.Goals as goal
 
-pub new-requires : goal.new-requires
-new-requires c =
+pub new-requires-clause-finished : goal.new-requires-clause-finished
+new-requires-clause-finished c =
     finished c.args.ctx.now c.args.call.now c.args.snap.now c.args.untested_plan c.requires.sound c.requires.served
     c.requires.made c.requires.ends c.requires.step c.few.ensures c.requires.short
 

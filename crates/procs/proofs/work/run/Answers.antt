@@ -31,7 +31,7 @@ pub returns-in-Ok-clause-io : goal.returns-in-Ok-clause-io
 returns-in-Ok-clause-io c =
     io_by_none c.args.call.now c.args.snap.now c.finish.result (rw c.in-Ok.is at c.work.ensures.sound)
 
-pub returns-in-Ok-read_only_plan-clause-io : goal.returns-in-Ok-read_only_plan-clause-io
-returns-in-Ok-read_only_plan-clause-io c =
+pub returns-in-Some-clause-io : goal.returns-in-Some-clause-io
+returns-in-Some-clause-io c =
     io_by_reply c.args.call.now c.args.snap.now _ _ c.finish-in-Ok-read_only_plan.ensures.done (search rules)
     (search rules)

@@ -1,4 +1,4 @@
-use Rattle.std.proofs.Common.{◌∙◌, subst, sym, true≢false}
+use Rattle.std.proofs.Common.{subst, sym}
 use Rattle.inode.specs.Read.{AreAsRead}
 use Rattle.layout.proofs.Holding.{holds_of}
 use Rattle.nfs_lengths.specs.Lengths.{IsShort}
@@ -13,15 +13,15 @@ returns-then-is_refused-clause-io c = λ blocks tree sound stands saw.
       whole = λ number less. (stands.bytes number less).0;
     }))
 
-pub returns-then-is_short-clause-sound : goal.returns-then-is_short-clause-sound
-returns-then-is_short-clause-sound c =
+pub returns-in-Some-clause-sound : goal.returns-in-Some-clause-sound
+returns-in-Some-clause-sound c =
     let nothing = c.is_refused.ensures.none c.if-is_refused.false in (c.in-Ok.ensures.sound nothing, nothing)
 
-pub returns-else-is_short-clause-io : goal.returns-else-is_short-clause-io
-returns-else-is_short-clause-io c = λ blocks tree sound stands saw.
+pub returns-in_default-clause-io : goal.returns-in_default-clause-io
+returns-in_default-clause-io c = λ blocks tree sound stands saw.
     let done = c.in-Ok.done in
     let made = c.in-Ok.ensures.step blocks tree sound stands
     (subst (AreAsRead blocks) (sym c.in-Ok.ensures.ok.named.read) saw) in
     let short = c.a_step_tells_a_short_reply.ensures tree c.args.ctx.now c.args.call.now done.reply made.0
     stands.parts.sound c.requires.served made.1 in
-    absurd (true≢false (sym (c.is_short.ensures.1 (subst IsShort (sym c.reply.ensures) short)) ∙ c.if-is_short.false))
+    absurd (c.in_default.ensures.none (subst IsShort (sym c.reply.ensures) short))
