@@ -158,7 +158,13 @@ fn lack<D: CrashDisk, W: Write>(
     store.core.refuse(error);
     short_replies_fit();
     what_fits_fits_into_more();
-    put(alloc, writer, room, xid, RpcReply::Refused(Refusal::SystemError))
+    put(
+        alloc,
+        writer,
+        room,
+        xid,
+        RpcReply::Refused(Refusal::SystemError),
+    )
 }
 
 /// What a call is answered by what came of its procedure: its reply, or a system error where an allocation

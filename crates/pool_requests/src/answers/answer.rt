@@ -7,9 +7,7 @@ use crate::jobs::{Immediate, ReplyAddress};
 use nfs_types::{ProgramReply, Reply};
 use procs::CommitWitness;
 use rpc::Refusal;
-use session_wire::{
-    ReplyBody, ReplyRoom, RpcReply, short_replies_fit, what_fits_fits_into_more,
-};
+use session_wire::{ReplyBody, ReplyRoom, RpcReply, short_replies_fit, what_fits_fits_into_more};
 use std::alloc::{AllocError, Global};
 use std::marker::{Model, PhantomData};
 use std::snapshot::Snapshot;
@@ -172,11 +170,7 @@ impl<L: Ledger> Answer<L> {
     }
 
     /// To a job whose call begins no transaction. Who makes it has a share of the ledger of commits, as above.
-    pub fn of_nothing(
-        reply_address: ReplyAddress,
-        room: ReplyRoom,
-        share: &Share<L>,
-    ) -> Answer<L>
+    pub fn of_nothing(reply_address: ReplyAddress, room: ReplyRoom, share: &Share<L>) -> Answer<L>
         requires begins_none { begins_transaction reply_address.job.call ≡ false }
         requires room { FitsIn room (with_reply Null) }
         ensures { result ≡ answer_to reply_address.job (with_reply Null) (evidence.Nothing reply_address) }
