@@ -47,12 +47,7 @@ impl<L: Ledger> Outbox<L> {
     ghost use Rattle.server_connection.specs.Outbox.{IsLeft, IsDone, IsForWriter, IsSilent, has_failed};
 
     /// Nothing waits, of the connection of this key and number, which came at this second.
-    pub fn new(
-        alloc: Global,
-        key: usize,
-        number: u64,
-        second: u64,
-    ) -> Result<Outbox<L>, AllocError>
+    pub fn new(alloc: Global, key: usize, number: u64, second: u64) -> Result<Outbox<L>, AllocError>
         ensures pending { IfOk result (λ outbox. outbox.replies.pending ≡ nothing_for key number) }
         ensures writing { IfOk result (λ outbox. outbox.replies.writing ≡ false) }
         ensures due { IfOk result (λ outbox. outbox.due ≡ 0) }

@@ -43,7 +43,6 @@ impl<L: Ledger> Model for Answer<L> {
       evidence = a.evidence;
     } };
 
-    ghost use Rattle.std.specs.Prelude.{◌×◌};
     ghost use Rattle.session_wire.specs.Capacity.{FitsIn};
 
     ghost invariant = { λ a. IsEvident (record {

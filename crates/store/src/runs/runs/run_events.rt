@@ -1,6 +1,6 @@
 //! The events of a run.
 ghost use Rattle.std.specs.Prelude.{◌≡◌, ◌+◌, ◌^◌, ◌<◌, ◌≤◌, ◌++◌, All, IfOk, IsTrue, [], None, length, option_map, vec_len};
-ghost use Rattle.std.specs.Prelude.{IsFalse, Some, false, true, vec_capacity, ℕ};
+ghost use Rattle.std.specs.Prelude.{IsFalse, Some, false, is_some, true, vec_capacity, ℕ};
 ghost use Rattle.layout.specs.Geometry.{IsLawful};
 ghost use Rattle.nfs_spec.specs.Model.Sound.{SoundTime};
 ghost use Rattle.nfs_types.specs.Fits.{CallFits};
@@ -134,10 +134,7 @@ impl<D: CrashDisk> Running<D> {
                 call,
             } => {
                 a_call_leaves_a_run_going();
-                let Some(room) = room else {
-                    unreachable!();
-                };
-                let step = self.hand(worker, credential, moment, call, room);
+                let step = self.hand(worker, credential, moment, call, brought(room));
                 run.trace_step(step);
             }
             Event::Work(worker) => {
@@ -332,6 +329,16 @@ fn room_for(alloc: Global, event: &Event) -> Result<Option<ReplyRoom>, AllocErro
     match event {
         Event::Call { .. } => Ok(Some(ReplyRoom::new(alloc)?)),
         _ => Ok(None),
+    }
+}
+
+// The memory that a call brings.
+fn brought(room: Option<ReplyRoom>) -> ReplyRoom
+    requires { is_some room ≡ true }
+{
+    match room {
+        Some(room) => room,
+        None => unreachable!(),
     }
 }
 
