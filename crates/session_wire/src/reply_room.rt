@@ -90,11 +90,11 @@ impl ReplyRoom {
 
 // Puts another mark in the place of the first four bytes.
 #[tactic(auto, unfolding(xdr::specs::Items::word))]
-fn set_mark(record: &mut Vec<u8>, mark: u32)
-    requires { MARK_BYTES ≤ len record.old.items }
-    ensures { record.new.items ≡ word mark ++ drop MARK_BYTES record.old.items }
+fn set_mark(bytes: &mut Vec<u8>, mark: u32)
+    requires { MARK_BYTES ≤ len bytes.old.items }
+    ensures { bytes.new.items ≡ word mark ++ drop MARK_BYTES bytes.old.items }
 {
-    BigEndian::write_u32(record, mark);
+    BigEndian::write_u32(bytes, mark);
 }
 
 /// A short reply isn't too long for a record, whatever its number.
