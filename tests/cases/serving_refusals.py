@@ -127,7 +127,7 @@ def came_to(what, asked, told, files):
     """Which of the three came, where the files are so."""
     is_done = asked.is_done(files)
     if told is None:
-        # Where the memory of a reply is refused its call may be done and not answered (README, Not yet).
+        is_so(f"{what}: a call whose connection was closed was done", not is_done)
         return "closed"
     if told == system_error(1):
         is_so(f"{what}: a call that was told of a system error was done", not is_done)
