@@ -18,8 +18,8 @@ use xdr::XdrFault;
 /// An answer to a record of a connection. Its type keeps that it bears the key and the numbers of what it answers, and
 /// that this may be answered so: with the reply to a record that begins no transaction; with the reply of the job's own
 /// procedure, which was committed, and whose place was settled where the reply has to be stable; with IO or SERVERFAULT
-/// in its place; or with a system error, made of a refusal of memory. It is made of evidence alone, each piece of which is used up for it. Its type names the ledger of
-/// the commits that it may rest on: that of one core.
+/// in its place; or with a system error, made of a refusal of memory. It is made of evidence alone, each piece of which is
+/// used up for it. Its type names the ledger of the commits that it may rest on: that of one core.
 #[derive(Drop)]
 pub struct Answer<L: Ledger> {
     key: usize,
